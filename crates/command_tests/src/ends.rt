@@ -24,7 +24,7 @@ pub(crate) struct Matched {
     pub words: &'static [&'static str],
     /// With one of these texts begins what should be written.
     pub fronts: &'static [&'static [Piece]],
-    /// With this line it ends.
+    /// With these lines it ends.
     pub last: &'static str,
 }
 

@@ -1,5 +1,5 @@
-//! Several workers on an archive that is made: what they write is the same for every number of them, and two are at
-//! work at the same time.
+//! An archive that is made, what it has, and several workers on it: what they write is the same for every number of
+//! them, and two are at work at the same time.
 
 use khe_base::NoMemory;
 use khe_io::{Gate, MemorySink, OpenGate};
@@ -18,26 +18,69 @@ const MAKE: Call<'static> = Call {
     files: &[],
 };
 
-/// What a command writes on the made archive.
+/// What the made archive has, each so often.
+const HAS: &[(&str, usize)] = &[
+    ("<Time Id=", 40),
+    ("<Resource Id=", 120),
+    ("<Event Id=", 300),
+    ("<Solution Reference=", 4),
+    ("Constraint Id=", 16),
+    ("<AssignResourceConstraint Id=", 1),
+    ("<AssignTimeConstraint Id=", 1),
+    ("<SplitEventsConstraint Id=", 1),
+    ("<DistributeSplitEventsConstraint Id=", 1),
+    ("<PreferResourcesConstraint Id=", 1),
+    ("<PreferTimesConstraint Id=", 1),
+    ("<AvoidSplitAssignmentsConstraint Id=", 1),
+    ("<SpreadEventsConstraint Id=", 1),
+    ("<LinkEventsConstraint Id=", 1),
+    ("<OrderEventsConstraint Id=", 1),
+    ("<AvoidClashesConstraint Id=", 1),
+    ("<AvoidUnavailableTimesConstraint Id=", 1),
+    ("<LimitIdleTimesConstraint Id=", 1),
+    ("<ClusterBusyTimesConstraint Id=", 1),
+    ("<LimitBusyTimesConstraint Id=", 1),
+    ("<LimitWorkloadConstraint Id=", 1),
+];
+
+/// Whether a text has each of these parts as often as it should.
+fn has_each(text: &str, parts: &[(&str, usize)]) -> bool {
+    for (part, count) in parts {
+        if text.split(*part).skip(1).count() != *count {
+            return false;
+        }
+    }
+    true
+}
+
+/// Whether the made archive has what it should.
+fn is_made_so<R: Threads + Sync>(rt: &R, alloc: Global) -> Result<bool, NoMemory> {
+    let (status, made) = run(rt, alloc, MAKE, GOOD, ROOM)?;
+    let text = std::str::from_utf8(made.taken()).unwrap_or("");
+    Ok(status == 0 && has_each(text, HAS))
+}
+
+/// The greater status of two runs, one that makes an archive and one of a command on it, and what the command writes.
 fn written<R: Threads + Sync, G: Gate>(
     rt: &R,
     alloc: Global,
     words: &[&str],
     gate: &G,
-) -> Result<MemorySink, NoMemory> {
-    let (_, made) = run(rt, alloc, MAKE, GOOD, ROOM)?;
+) -> Result<(u8, MemorySink), NoMemory> {
+    let (made_so, made) = run(rt, alloc, MAKE, GOOD, ROOM)?;
     let text = std::str::from_utf8(made.taken()).unwrap_or("");
-    written_on(rt, alloc, text, words, gate)
+    let (ended_so, sink) = written_on(rt, alloc, text, words, gate)?;
+    Ok((made_so.max(ended_so), sink))
 }
 
-/// What a command writes on an archive of this text.
+/// How a command ends on an archive of this text, and what it writes.
 fn written_on<R: Threads + Sync, G: Gate>(
     rt: &R,
     alloc: Global,
     text: &str,
     words: &[&str],
     gate: &G,
-) -> Result<MemorySink, NoMemory> {
+) -> Result<(u8, MemorySink), NoMemory> {
     let files = [File {
         name: "archive",
         text,
@@ -46,11 +89,10 @@ fn written_on<R: Threads + Sync, G: Gate>(
         words,
         files: &files,
     };
-    let (_, sink) = run_at(rt, alloc, call, GOOD, ROOM, gate)?;
-    Ok(sink)
+    run_at(rt, alloc, call, GOOD, ROOM, gate)
 }
 
-/// Whether a command writes the same as another one, a text that begins so.
+/// Whether a command ends well after the same as another one, a text that begins so.
 fn is_same<R: Threads + Sync>(
     rt: &R,
     alloc: Global,
@@ -58,17 +100,23 @@ fn is_same<R: Threads + Sync>(
     other: &[&str],
     first: &[u8],
 ) -> Result<bool, NoMemory> {
-    let one = written(rt, alloc, one, &OpenGate)?;
-    let other = written(rt, alloc, other, &OpenGate)?;
+    let (status, one) = written(rt, alloc, one, &OpenGate)?;
+    let (other_status, other) = written(rt, alloc, other, &OpenGate)?;
     let bytes = one.taken();
-    Ok(bytes.starts_with(first) && bytes == other.taken())
+    Ok(status.max(other_status) == 0 && bytes.starts_with(first) && bytes == other.taken())
 }
 
-/// Whether two workers of a command are at work at the same time.
+/// Whether two workers of a command are at work at the same time, and it ends well.
 fn two_come<R: Threads + Sync>(rt: &R, alloc: Global, words: &[&str]) -> Result<bool, NoMemory> {
     let gate = Meeting::of(1);
-    let sink = written(rt, alloc, words, &gate)?;
-    Ok(gate.came() && sink.taken().len() > 0)
+    let (status, sink) = written(rt, alloc, words, &gate)?;
+    Ok(status == 0 && gate.came() && sink.taken().len() > 0)
+}
+
+#[test]
+fn a_made_school_has_all_kinds(rt: HostRuntime) -> Result<(), Fail> {
+    assert!(rt; is_made_so(&rt, rt.alloc())?);
+    Ok(())
 }
 
 #[test]

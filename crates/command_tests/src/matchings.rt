@@ -3,8 +3,8 @@
 use crate::archives::{CHOICE, CROWD, TIMED, TOO_LARGE_CROWD, TWO};
 use crate::ends::{Matched, Row, must_end_so, must_match};
 use crate::texts::CHOICE_FRONT;
-use program_runs::Piece::Once;
-use program_runs::{EMPTY, FRONT, GROUP, PLACED, REST, SECOND, TWO_EVENTS};
+use program_runs::Piece::{Numbered, Once};
+use program_runs::{EMPTY, FRONT, GROUP, PLACED, Piece, REST, SECOND, TWO_EVENTS};
 use std::test::Fail;
 
 const NONE_ROWS: &[Row] = &[
@@ -255,7 +255,8 @@ fn two_tasks_have_a_resource_each(rt: HostRuntime) -> Result<(), Fail> {
 }
 
 const CHOSEN: &[Matched] = &[
-    // Task by task, `E` would take the resource that `F` wants. The first time of `E` is an earlier one, and its own
+    // Task by task, `E` would take the resource that `G` wants, so that one has a price below 0. Other prices would be
+    // right as well: these are those of a program that was written apart from this one. The first time of `E` is an earlier one, and its own
     // resource and the place of another type are passed over.
     Matched {
         words: &["match", "archive", "0", "1", "0"],
@@ -324,7 +325,12 @@ const CHOSEN: &[Matched] = &[
 "#,
             ),
         ]],
-        last: "<!-- khe match tasks 2 sum hard 69 soft 0 taken hard 22 soft 0 -->\n",
+        last: "\
+<!-- khe task 0 1 resource 2 price 31 0 -->
+<!-- khe task 2 0 resource 1 price 40 0 -->
+<!-- khe resource 1 price -2 0 -->
+<!-- khe match tasks 2 sum hard 69 soft 0 taken hard 22 soft 0 -->
+",
     },
     // The same choice stands already.
     Matched {
@@ -394,7 +400,12 @@ const CHOSEN: &[Matched] = &[
 "#,
             ),
         ]],
-        last: "<!-- khe match tasks 2 sum hard 47 soft 0 kept hard 11 soft 0 -->\n",
+        last: "\
+<!-- khe task 0 1 resource 2 price 20 0 -->
+<!-- khe task 2 0 resource 1 price 29 0 -->
+<!-- khe resource 1 price -2 0 -->
+<!-- khe match tasks 2 sum hard 47 soft 0 kept hard 11 soft 0 -->
+",
     },
     // A resource that costs as much as none.
     Matched {
@@ -414,12 +425,86 @@ fn a_task_leaves_a_resource_to_another(rt: HostRuntime) -> Result<(), Fail> {
     must_match(&rt, rt.alloc(), &[Once(CHOICE)], CHOSEN)
 }
 
+/// The place with the role `R7` gets the only resource. Several prices of that pair are right; each other place goes
+/// without, at the cost of that.
+const CROWD_MATCHED: &[Piece] = &[
+    Once(
+        r#"<?xml version="1.0" encoding="UTF-8"?>
+<HighSchoolTimetableArchive>
+<Instances>
+<Instance Id="L">
+<Times>
+<Time Id="t"/>
+</Times>
+<Resources>
+<ResourceTypes>
+<ResourceType Id="X"/>
+</ResourceTypes>
+<Resource Id="r">
+<ResourceType Reference="X"/>
+</Resource>
+</Resources>
+<Events>
+<Event Id="E">
+<Duration>1</Duration>
+<Time Reference="t"/>
+<Resources>
+"#,
+    ),
+    Numbered(
+        200,
+        "<Resource>\n<Role>R",
+        "</Role>\n<ResourceType Reference=\"X\"/>\n</Resource>\n",
+    ),
+    Once(
+        r#"</Resources>
+</Event>
+</Events>
+<Constraints>
+<AssignResourceConstraint Id="c">
+<Required>true</Required>
+<Weight>3</Weight>
+<CostFunction>Linear</CostFunction>
+<AppliesTo>
+<Events>
+<Event Reference="E"/>
+</Events>
+</AppliesTo>
+<Role>R7</Role>
+</AssignResourceConstraint>
+</Constraints>
+</Instance>
+</Instances>
+<SolutionGroups>
+<SolutionGroup Id="H">
+<Solution Reference="L">
+<Events>
+<Event Reference="E">
+<Duration>1</Duration>
+<Time Reference="t"/>
+<Resources>
+<Resource Reference="r">
+<Role>R7</Role>
+</Resource>
+</Resources>
+</Event>
+</Events>
+</Solution>
+</SolutionGroup>
+</SolutionGroups>
+</HighSchoolTimetableArchive>
+"#,
+    ),
+    Numbered(7, "<!-- khe task 0 ", " resource - price 3 0 -->\n"),
+    Once("<!-- khe task 0 7 resource 0 price "),
+];
+
 const CROWDED: &[Matched] = &[
     // As many tasks as can be matched, and one resource.
     Matched {
         words: &["match", "archive", "0", "0", "0"],
-        fronts: &[&[]],
-        last: "<!-- khe match tasks 200 sum hard 597 soft 0 taken hard 0 soft 0 -->\n",
+        fronts: &[CROWD_MATCHED],
+        last: "<!-- khe task 0 199 resource - price 3 0 -->\n<!-- khe match tasks 200 sum hard 597 soft 0 taken hard 0 soft 0 -->\n",
     },
 ];
 

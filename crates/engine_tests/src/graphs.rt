@@ -1,6 +1,6 @@
-//! Defects far apart among many monitors.
+//! Defects far apart among many monitors, and the children of a group in their order.
 
-use crate::hand_graphs::{edit, graph_of, group_cost, set_each};
+use crate::hand_graphs::{child, edit, graph_of, group_cost, remove_and_undo, set_each};
 use khe_base::{GroupId, MonitorId, NoMemory, Totals};
 use khe_told::Edit;
 use monitor_graph::Graph;
@@ -14,6 +14,54 @@ const FAR: &[u32] = &[
 
 /// The defects that are left without two of them.
 const LEFT: &[u32] = &[0, 63, 4_095, 4_096, 4_160, 262_143, 700_001, 999_999];
+
+/// Adds these monitors to the first group, which is made, and answers whether all were accepted.
+fn group_of(graph: &mut Graph, children: &[u32]) -> Result<bool, NoMemory> {
+    if edit(graph, Edit::MakeGroup)? != Ok(Some(0)) {
+        return Ok(false);
+    }
+    for number in children {
+        let add = Edit::AddChild {
+            group: GroupId(0),
+            child: MonitorId(*number),
+        };
+        if edit(graph, add)? != Ok(None) {
+            return Ok(false);
+        }
+    }
+    Ok(true)
+}
+
+/// Whether these are the children of the first group, in this order.
+fn has_children(graph: &Graph, children: &[u32]) -> bool {
+    let mut place = 0u32;
+    for number in children {
+        if child(graph, 0, place) != Some(MonitorId(*number)) {
+            return false;
+        }
+        place = place.saturating_add(1);
+    }
+    child(graph, 0, place).is_none()
+}
+
+/// Whether a child that is removed comes back to its place.
+fn comes_back(graph: &mut Graph) -> Result<bool, NoMemory> {
+    let grouped = group_of(graph, &[1, 0, 2])? && has_children(graph, &[1, 0, 2]);
+    let undone = remove_and_undo(graph, GroupId(0), MonitorId(0))?;
+    Ok(grouped && undone && has_children(graph, &[1, 0, 2]))
+}
+
+/// Whether this is so among three monitors.
+fn keeps_order(alloc: Global) -> Result<bool, NoMemory> {
+    let mut graph = graph_of(alloc, &[(1, true)], 3)?;
+    comes_back(&mut graph)
+}
+
+#[test]
+fn a_child_comes_back_to_its_place(rt: HostRuntime) -> Result<(), Fail> {
+    assert!(rt; keeps_order(rt.alloc())?);
+    Ok(())
+}
 
 /// Whether the last of a million monitors goes into each of the 200 groups.
 fn is_grouped(graph: &mut Graph) -> Result<bool, NoMemory> {

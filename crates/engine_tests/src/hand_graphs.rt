@@ -105,6 +105,34 @@ pub(crate) fn edit(
     }
 }
 
+/// The child of a group at a place, if it has one.
+pub(crate) fn child(graph: &Graph, group: u32, place: u32) -> Option<MonitorId> {
+    if graph.has_group(GroupId(group)) {
+        graph.child(GroupId(group), place)
+    } else {
+        None
+    }
+}
+
+/// Makes an edit that removes a child, and undoes it. It answers whether the edit was accepted.
+pub(crate) fn remove_and_undo(
+    graph: &mut Graph,
+    group: GroupId,
+    child: MonitorId,
+) -> Result<bool, NoMemory> {
+    let remove = Edit::RemoveChild { group, child };
+    if graph.check(&remove).is_err() {
+        return Ok(false);
+    }
+    let back = graph.back(&remove);
+    if graph.edit(remove).is_err() {
+        return Ok(false);
+    }
+    graph.room(group, 1)?;
+    graph.undo(back);
+    Ok(true)
+}
+
 /// What a group costs.
 pub(crate) fn group_cost(graph: &Graph, group: u32) -> Option<Totals> {
     if graph.has_group(GroupId(group)) {

@@ -22,6 +22,8 @@ mod graphs;
 #[cfg(test)]
 mod hand_graphs;
 #[cfg(test)]
+mod journals;
+#[cfg(test)]
 mod looking;
 #[cfg(test)]
 mod many_solutions;
@@ -37,6 +39,8 @@ mod plays;
 mod rows;
 #[cfg(test)]
 mod sights;
+#[cfg(test)]
+mod spans;
 #[cfg(test)]
 mod watched_solutions;
 #[cfg(test)]

@@ -96,6 +96,30 @@ fn rounds_of(alloc: Global) -> Result<bool, NoMemory> {
     Ok(rounds(&mut matching))
 }
 
+// Three demands for one supply, of which one goes.
+fn lacks_two(matching: &mut Matching) -> bool
+    requires { IsSized matching.old 3 1 1 }
+{
+    put(matching, 0, 0, 0);
+    put(matching, 1, 0, 0);
+    put(matching, 2, 0, 0);
+    let two = shows(matching, 2, &[0, 1, 2]);
+    matching.set_domain(1, None);
+    two && shows(matching, 1, &[0, 2])
+}
+
+/// Whether two are short where three want one supply.
+fn crowds(alloc: Global) -> Result<bool, NoMemory> {
+    let mut matching = empty(alloc, 3, 1, 1)?;
+    Ok(lacks_two(&mut matching))
+}
+
+#[test]
+fn three_demands_for_one_supply(rt: HostRuntime) -> Result<(), Fail> {
+    assert!(rt; crowds(rt.alloc())?);
+    Ok(())
+}
+
 /// A change that looked at all present demands would take hours here.
 #[test]
 fn a_change_looks_at_few_demands(rt: HostRuntime) -> Result<(), Fail> {

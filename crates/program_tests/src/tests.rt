@@ -305,8 +305,29 @@ fn must_end_all<R: Threads + Sync + Abort>(
     Ok(())
 }
 
+/// The first archive with a mark of the byte order, a declaration, a comment, a character by its number, other quotes
+/// and the children of its constraint in reverse order.
+const SPELLED_OTHERWISE: &str =
+    "\u{feff}<?xml version=\"1.0\" encoding=\"UTF-8\"?><!-- a comment -->
+<HighSchoolTimetableArchive>
+<Instances><Instance Id='I'>
+<Times><Time Id=\"t0\"/><Time Id=\"t1\"/><Time Id=\"t2\"/></Times>
+<Events><Event Id=\"&#69;\"><Duration>3</Duration></Event></Events>
+<Constraints><AssignTimeConstraint Id=\"c\"><AppliesTo><Events><Event Reference=\"E\"/></Events></AppliesTo>
+<CostFunction>Linear</CostFunction><Weight>2</Weight><Required>true</Required></AssignTimeConstraint></Constraints>
+</Instance></Instances>
+<SolutionGroups><SolutionGroup Id=\"G\"><Solution Reference=\"I\"/></SolutionGroup></SolutionGroups>
+</HighSchoolTimetableArchive>
+";
+
 /// Whole archives.
 const SMALL_ARCHIVES: &[Small] = &[
+    // The first archive, spelled otherwise wherever that changes nothing.
+    (
+        SPELLED_OTHERWISE,
+        "archive instances 1 solutions 1\nsolution 0 group \"G\" instance \"I\"\nmonitor 0 AssignTime \"c\" event \"E\" deviation 3 hard 6\ntotal hard 6 soft 0\n",
+        0,
+    ),
     (
         "<HighSchoolTimetableArchive/>",
         "archive instances 0 solutions 0\n",
@@ -354,11 +375,17 @@ fn evaluates_small_archives(rt: HostRuntime) -> Result<(), Fail> {
     must_end_all(&rt, rt.alloc(), SMALL_ARCHIVES)
 }
 
-/// The first archive alone on the shelf.
-const FILES: &[File<'static>] = &[File {
-    name: "archive",
-    text: FIRST,
-}];
+/// The first archive, and one of two events.
+const FILES: &[File<'static>] = &[
+    File {
+        name: "archive",
+        text: FIRST,
+    },
+    File {
+        name: "two",
+        text: TWO_EVENTS,
+    },
+];
 
 const NOT_UNDERSTOOD: End<'static> = End {
     status: 2,
@@ -427,6 +454,7 @@ fn answers_failing_devices(rt: HostRuntime) -> Result<(), Fail> {
     let whole = format!(in rt.alloc(); "{HEADER}{WHOLE}")?;
     must_end_by(&rt, rt.alloc(), "archive", BIT_BY_BIT, (0, whole.as_str()))?;
     must_end_by(&rt, rt.alloc(), "archive", SMALL, (5, "arc"))?;
+    must_end_by(&rt, rt.alloc(), "two", SMALL, (5, "arc"))?;
     must_end_by(&rt, rt.alloc(), "archive", failing(0, 1), (5, ""))?;
     must_end_by(&rt, rt.alloc(), "archive", failing(1, 0), (4, ""))?;
     must_end_by(&rt, rt.alloc(), "archive", failing(2, 0), (4, ""))?;

@@ -47,11 +47,25 @@ pub(crate) const RESERVED: &str = r#"<HighSchoolTimetableArchive>
 <Event Id="F"><Duration>1</Duration><Resources><Resource><Role>R</Role><ResourceType Reference="X"/></Resource></Resources></Event>
 </Events>
 <Constraints>
+<AssignTimeConstraint Id="c0"><Required>true</Required><Weight>2</Weight><CostFunction>Linear</CostFunction>
+<AppliesTo><Events><Event Reference="E"/><Event Reference="F"/></Events></AppliesTo></AssignTimeConstraint>
+<AssignResourceConstraint Id="c1"><Required>true</Required><Weight>1</Weight><CostFunction>Linear</CostFunction>
+<AppliesTo><Events><Event Reference="E"/><Event Reference="F"/></Events></AppliesTo><Role>R</Role></AssignResourceConstraint>
+<AvoidClashesConstraint Id="c2"><Required>true</Required><Weight>5</Weight><CostFunction>Linear</CostFunction>
+<AppliesTo><Resources><Resource Reference="r0"/><Resource Reference="r1"/></Resources></AppliesTo></AvoidClashesConstraint>
+<PreferTimesConstraint Id="c3"><Required>false</Required><Weight>3</Weight><CostFunction>Linear</CostFunction>
+<AppliesTo><Events><Event Reference="F"/></Events></AppliesTo><Times><Time Reference="t0"/></Times></PreferTimesConstraint>
 <AvoidUnavailableTimesConstraint Id="c4"><Required>true</Required><Weight>1</Weight><CostFunction>Linear</CostFunction>
 <AppliesTo><Resources><Resource Reference="r0"/></Resources></AppliesTo><Times><Time Reference="t0"/></Times></AvoidUnavailableTimesConstraint>
 </Constraints>
 </Instance></Instances>
-<SolutionGroups><SolutionGroup Id="H"><Solution Reference="J"/></SolutionGroup></SolutionGroups>
+<SolutionGroups><SolutionGroup Id="H">
+<Solution Reference="J"/>
+<Solution Reference="J"><Events>
+<Event Reference="E"><Time Reference="t0"/><Resources><Resource Reference="r0"><Role>R</Role></Resource></Resources></Event>
+<Event Reference="F"><Time Reference="t0"/><Resources><Resource Reference="r1"><Role>R</Role></Resource></Resources></Event>
+</Events></Solution>
+</SolutionGroup></SolutionGroups>
 </HighSchoolTimetableArchive>
 "#;
 
@@ -67,15 +81,29 @@ pub(crate) const UNRESERVED: &str = r#"<HighSchoolTimetableArchive>
 <Event Id="F"><Duration>1</Duration><Resources><Resource><Role>R</Role><ResourceType Reference="X"/></Resource></Resources></Event>
 </Events>
 <Constraints>
+<AssignTimeConstraint Id="c0"><Required>true</Required><Weight>2</Weight><CostFunction>Linear</CostFunction>
+<AppliesTo><Events><Event Reference="E"/><Event Reference="F"/></Events></AppliesTo></AssignTimeConstraint>
+<AssignResourceConstraint Id="c1"><Required>true</Required><Weight>1</Weight><CostFunction>Linear</CostFunction>
+<AppliesTo><Events><Event Reference="E"/><Event Reference="F"/></Events></AppliesTo><Role>R</Role></AssignResourceConstraint>
+<AvoidClashesConstraint Id="c2"><Required>true</Required><Weight>5</Weight><CostFunction>Linear</CostFunction>
+<AppliesTo><Resources><Resource Reference="r0"/><Resource Reference="r1"/></Resources></AppliesTo></AvoidClashesConstraint>
+<PreferTimesConstraint Id="c3"><Required>false</Required><Weight>3</Weight><CostFunction>Linear</CostFunction>
+<AppliesTo><Events><Event Reference="F"/></Events></AppliesTo><Times><Time Reference="t0"/></Times></PreferTimesConstraint>
 <AvoidUnavailableTimesConstraint Id="c4"><Required>true</Required><Weight>0</Weight><CostFunction>Linear</CostFunction>
 <AppliesTo><Resources><Resource Reference="r0"/></Resources></AppliesTo><Times><Time Reference="t0"/></Times></AvoidUnavailableTimesConstraint>
 </Constraints>
 </Instance></Instances>
-<SolutionGroups><SolutionGroup Id="H"><Solution Reference="J"/></SolutionGroup></SolutionGroups>
+<SolutionGroups><SolutionGroup Id="H">
+<Solution Reference="J"/>
+<Solution Reference="J"><Events>
+<Event Reference="E"><Time Reference="t0"/><Resources><Resource Reference="r0"><Role>R</Role></Resource></Resources></Event>
+<Event Reference="F"><Time Reference="t0"/><Resources><Resource Reference="r1"><Role>R</Role></Resource></Resources></Event>
+</Events></Solution>
+</SolutionGroup></SolutionGroups>
 </HighSchoolTimetableArchive>
 "#;
 
-/// The archive of two events, in which `F` must start at `t0`: that is the monitor 0.
+/// The archive of two events, in which `F` must start at `t0`: that is the monitor 6.
 pub(crate) const STRICT: &str = r#"<HighSchoolTimetableArchive>
 <Instances><Instance Id="J">
 <Times><Time Id="t0"/><Time Id="t1"/><Time Id="t2"/></Times>
@@ -87,11 +115,35 @@ pub(crate) const STRICT: &str = r#"<HighSchoolTimetableArchive>
 <Event Id="F"><Duration>1</Duration><Resources><Resource><Role>R</Role><ResourceType Reference="X"/></Resource></Resources></Event>
 </Events>
 <Constraints>
+<AssignTimeConstraint Id="c0"><Required>true</Required><Weight>2</Weight><CostFunction>Linear</CostFunction>
+<AppliesTo><Events><Event Reference="E"/><Event Reference="F"/></Events></AppliesTo></AssignTimeConstraint>
+<AssignResourceConstraint Id="c1"><Required>true</Required><Weight>1</Weight><CostFunction>Linear</CostFunction>
+<AppliesTo><Events><Event Reference="E"/><Event Reference="F"/></Events></AppliesTo><Role>R</Role></AssignResourceConstraint>
+<AvoidClashesConstraint Id="c2"><Required>true</Required><Weight>5</Weight><CostFunction>Linear</CostFunction>
+<AppliesTo><Resources><Resource Reference="r0"/><Resource Reference="r1"/></Resources></AppliesTo></AvoidClashesConstraint>
 <PreferTimesConstraint Id="c3"><Required>true</Required><Weight>3</Weight><CostFunction>Linear</CostFunction>
 <AppliesTo><Events><Event Reference="F"/></Events></AppliesTo><Times><Time Reference="t0"/></Times></PreferTimesConstraint>
 </Constraints>
 </Instance></Instances>
-<SolutionGroups><SolutionGroup Id="H"><Solution Reference="J"/></SolutionGroup></SolutionGroups>
+<SolutionGroups><SolutionGroup Id="H">
+<Solution Reference="J"/>
+<Solution Reference="J"><Events>
+<Event Reference="E"><Time Reference="t0"/><Resources><Resource Reference="r0"><Role>R</Role></Resource></Resources></Event>
+<Event Reference="F"><Time Reference="t0"/><Resources><Resource Reference="r1"><Role>R</Role></Resource></Resources></Event>
+</Events></Solution>
+</SolutionGroup></SolutionGroups>
+</HighSchoolTimetableArchive>
+"#;
+
+/// An event without a start, which costs nothing.
+pub(crate) const FREE: &str = r#"<HighSchoolTimetableArchive>
+<Instances><Instance Id="I">
+<Times><Time Id="t0"/><Time Id="t1"/><Time Id="t2"/></Times>
+<Events><Event Id="E"><Duration>3</Duration></Event></Events>
+<Constraints><AssignTimeConstraint Id="c"><Required>true</Required><Weight>0</Weight><CostFunction>Linear</CostFunction>
+<AppliesTo><Events><Event Reference="E"/></Events></AppliesTo></AssignTimeConstraint></Constraints>
+</Instance></Instances>
+<SolutionGroups><SolutionGroup Id="G"><Solution Reference="I"/></SolutionGroup></SolutionGroups>
 </HighSchoolTimetableArchive>
 "#;
 

@@ -1,9 +1,9 @@
 //! The command on small archives. What it should write was made by a reference program that was written
 //! apart from this one.
 
-use crate::archives::{CROSSED, TO_CUT, TO_JOIN};
+use crate::archives::{CROSSED, FREE, TO_CUT, TO_JOIN};
 use crate::ends::{must_answer, must_not_be_read};
-use crate::texts::{CUT, FIFTH, JOINED, SPENT, SWAPPED};
+use crate::texts::{CUT, FIFTH, JOINED, SPENT, SWAPPED, UNTRIED};
 use khe_base::NoMemory;
 use program_runs::Piece::Once;
 use program_runs::{EMPTY, End, FRONT, GROUP, PLACED, Piece, REST, SECOND, TWO_EVENTS, text_of};
@@ -85,6 +85,13 @@ const REPAIRS: &[Row] = &[
         words: &["repair", "archive", "0", "--depth", "1", "--budget", "10"],
         status: 0,
         text: &[Once(JOINED)],
+    },
+    // A monitor that deviates and costs nothing is no defect.
+    Row {
+        archive: FREE,
+        words: &["repair", "archive", "0", "--depth", "1", "--budget", "10"],
+        status: 0,
+        text: &[Once(UNTRIED)],
     },
     Row {
         archive: TWO_EVENTS,

@@ -75,7 +75,7 @@ const NOT_KEPT_FREE: Play = Play {
 const ONE_START: Play = Play {
     archive: STRICT,
     solution: "0",
-    script: &[Once("give 0 0 0\ngive 3 0 0\ndeficit\ndetach 0\ndeficit\n")],
+    script: &[Once("give 0 0 0\ngive 3 0 0\ndeficit\ndetach 6\ndeficit\n")],
     status: 0,
     text: &[Once(
         "ok\nok\ndeficit 1 demands 2\ndemand 0 0 0\ndemand 3 0 0\nok\ndeficit 1 demands 2\ndemand 0 0 0\ndemand 3 0 0\n",

@@ -222,3 +222,47 @@ pub(crate) const JOINED: &str = r#"<?xml version="1.0" encoding="UTF-8"?>
 </HighSchoolTimetableArchive>
 <!-- khe repair done accepted 1 tried 2 hard 0 soft 0 -->
 "#;
+
+/// An event without a start, which costs nothing, so no move is tried.
+pub(crate) const UNTRIED: &str = r#"<?xml version="1.0" encoding="UTF-8"?>
+<HighSchoolTimetableArchive>
+<Instances>
+<Instance Id="I">
+<Times>
+<Time Id="t0"/>
+<Time Id="t1"/>
+<Time Id="t2"/>
+</Times>
+<Events>
+<Event Id="E">
+<Duration>3</Duration>
+</Event>
+</Events>
+<Constraints>
+<AssignTimeConstraint Id="c">
+<Required>true</Required>
+<Weight>0</Weight>
+<CostFunction>Linear</CostFunction>
+<AppliesTo>
+<Events>
+<Event Reference="E"/>
+</Events>
+</AppliesTo>
+</AssignTimeConstraint>
+</Constraints>
+</Instance>
+</Instances>
+<SolutionGroups>
+<SolutionGroup Id="G">
+<Solution Reference="I">
+<Events>
+<Event Reference="E">
+<Duration>3</Duration>
+</Event>
+</Events>
+</Solution>
+</SolutionGroup>
+</SolutionGroups>
+</HighSchoolTimetableArchive>
+<!-- khe repair done accepted 0 tried 0 hard 0 soft 0 -->
+"#;

@@ -4,7 +4,7 @@ use khe_io::Gate;
 use std::sync::atomic::{AtomicBool, AtomicU64, Ordering};
 
 /// How often the first job at a gate looks for the others.
-const MOST_TURNS: u32 = 4_000_000_000;
+const MOST_TURNS: u32 = 100_000_000;
 
 /// A gate at which the first job waits until a number of others have come, and which notes whether they did.
 #[derive(Drop)]
