@@ -39,7 +39,10 @@ PHRASES = {
     "LimitWorkload": "has too much or too little to do, by",
 }
 WITH_CELLS = ("AvoidClashes", "AvoidUnavailableTimes", "LimitIdleTimes")
-ESCAPED = str.maketrans({"&": "&amp;", "<": "&lt;", ">": "&gt;", '"': "&quot;", "'": "&#39;"})
+ESCAPED = {ord(sign): word for sign, word in {"&": "&amp;", "<": "&lt;", ">": "&gt;", '"': "&quot;", "'": "&#39;"}.items()}
+# Characters that turn the direction of the text around them are shown by their numbers.
+TURNING = (0x61C, 0x200E, 0x200F, *range(0x202A, 0x202F), *range(0x2066, 0x206A))
+ESCAPED.update({code: "[U+%04X]" % code for code in TURNING})
 
 # A part of an event: the numbers of its event and of its first time, and of the resource at each place, or None.
 Meet = namedtuple("Meet", "event duration start given")
@@ -47,6 +50,11 @@ Meet = namedtuple("Meet", "event duration start given")
 
 def escaped(text):
     return text.translate(ESCAPED)
+
+
+def isolated(text):
+    """A text of the archive where the page shows it: it reorders nothing around it, whatever its direction."""
+    return "<bdi>%s</bdi>" % escaped(text)
 
 
 def fixed_text(name):
@@ -57,12 +65,16 @@ def fixed_text(name):
 
 def shown(element):
     """What a part of an archive is called, escaped: by its name, or by its Id where it has none."""
-    return escaped(element.findtext("Name") or element.get("Id"))
+    return isolated(element.findtext("Name") or element.get("Id"))
+
+
+def whole_name(element, unnamed=""):
+    return element.findtext("MetaData/Name") or element.get("Id") or unnamed
 
 
 def titled(element, unnamed=""):
     """The same of what has its name in its meta data: an archive, an instance or a solution group."""
-    return escaped(element.findtext("MetaData/Name") or element.get("Id") or unnamed)
+    return isolated(whole_name(element, unnamed))
 
 
 def references(element, path):
@@ -214,7 +226,7 @@ class Section:
         first = self.event(self.instance.events.number[monitor.subject])
         if monitor.point == "events":
             return first + " and " + self.event(self.instance.events.number[monitor.other])
-        return first + (" (%s)" % escaped(monitor.other) if monitor.other else "")
+        return first + (" (%s)" % isolated(monitor.other) if monitor.other else "")
 
     def where(self, monitor):
         """The cells that a monitor is about, where its kind has some."""
@@ -298,7 +310,7 @@ class Section:
         text = '<div><strong class="bad">no time</strong>' if none else "<div><b>%s</b>" % self.instance.times.names[meet.start]
         text += " for %d times:" % meet.duration if meet.duration > 1 else ":"
         for (role, _), resource in zip(self.instance.places[meet.event], meet.given):
-            nobody = ' <strong class="bad">%s</strong>' % ("no " + escaped(role) if role else "nobody")
+            nobody = ' <strong class="bad">%s</strong>' % ("no " + isolated(role) if role else "nobody")
             text += nobody if resource is None else " " + self.resource(resource)
         return text + "</div>"
 
@@ -322,7 +334,7 @@ def section_of(number, instance, group, solution, verdict):
     text = head % (number, number, instance.name, group)
     for before, what in (("", "Description"), ("Running time: ", "RunningTime")):
         if solution.find(what) is not None:
-            text += "<p>%s%s</p>\n" % (before, escaped(solution.findtext(what)))
+            text += "<p>%s%s</p>\n" % (before, isolated(solution.findtext(what)))
     if verdict.totals is None:
         return text + '<p class="bad">%s</p></section>\n' % verdict.said
     section = Section(number, instance, solution, verdict)
@@ -353,15 +365,15 @@ def summary_of(archive, solutions):
 
 
 def opening_of(archive, solutions):
-    title = titled(archive, "Timetables")
+    title = escaped(whole_name(archive, "Timetables"))
     text = '<!DOCTYPE html>\n<html lang="en"><head><meta charset="utf-8"><title>%s</title>\n' % title
     text += '<meta name="viewport" content="width=device-width,initial-scale=1">\n<style>\n%s</style></head>' % fixed_text("STYLE")
     instances = len(archive.findall("Instances/Instance"))
-    text += "<body><header><h1>%s</h1>\n<p>Instances: %d, solutions: %d.</p>\n" % (title, instances, solutions)
+    text += "<body><header><h1>%s</h1>\n<p>Instances: %d, solutions: %d.</p>\n" % (titled(archive, "Timetables"), instances, solutions)
     if archive.find("MetaData") is not None:
         heads = ("Contributor", "Date", "Country", "Description", "Publication", "Remarks")
         said = [(one, archive.findtext("MetaData/" + one)) for one in heads]
-        lines = ["<dt>%s</dt><dd>%s</dd>\n" % (what, escaped(one)) for what, one in said if one is not None]
+        lines = ["<dt>%s</dt><dd>%s</dd>\n" % (what, isolated(one)) for what, one in said if one is not None]
         text += "<dl>\n%s</dl>\n" % "".join(lines)
     text += '<search><label for="find">Find a resource or an event</label>\n<input id="find" type="search" '
     text += 'autocomplete="off"><ul id="found" aria-live="polite"></ul></search>\n<noscript><p>Searching and sorting need '

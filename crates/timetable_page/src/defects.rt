@@ -21,13 +21,13 @@ const LISTED_CELLS: u32 = 40;
 /// Adds a link to a resource's timetable, with its name.
 pub(crate) fn push_resource_link(page: &mut Draft, view: &View<'_>, resource: u32) {
     page.push_place("<a href=\"#s", view.number, "r", resource, "\">");
-    page.push_between("", resource_name(view.raw, resource), "</a>");
+    page.push_named("", resource_name(view.raw, resource), "</a>");
 }
 
 /// Adds a link to an event's row, with its name.
 pub(crate) fn push_event_link(page: &mut Draft, view: &View<'_>, event: u32) {
     page.push_place("<a href=\"#s", view.number, "e", event, "\">");
-    page.push_between("", event_name(view.raw, event), "</a>");
+    page.push_named("", event_name(view.raw, event), "</a>");
 }
 
 /// The role of a place of an event, where it has one.
@@ -64,10 +64,10 @@ fn push_subject(page: &mut Draft, view: &View<'_>, rule: &Rule, point: Point) {
         Point::EventResource { event, place } => {
             push_event_link(page, view, event.0);
             if let Some(role) = role_of(view, event, place) {
-                page.push_between(" (", role, ")");
+                page.push_named(" (", role, ")");
             }
         }
-        Point::EventGroup(group) => page.push_between("", group_name(view.raw, group), ""),
+        Point::EventGroup(group) => page.push_named("", group_name(view.raw, group), ""),
         Point::EventPair(number) => push_pair(page, view, rule, number),
         Point::Resource(resource) => push_resource_link(page, view, resource.0),
     }
@@ -101,7 +101,7 @@ fn phrase(kind: Kind) -> &'static str
 fn push_cell_link(page: &mut Draft, view: &View<'_>, resource: u32, time: u32, busy: usize) {
     page.push_place(" <a href=\"#s", view.number, "r", resource, "");
     page.push_counted("t", u128::from(time), "\">");
-    page.push_between("", time_name(view.raw, time), "</a>");
+    page.push_named("", time_name(view.raw, time), "</a>");
     if busy == 2 {
         page.push_literal(" (twice)");
     }

@@ -65,6 +65,17 @@ impl Draft {
         }
     }
 
+    /// Adds a name or another text of the archive between two pieces of markup, escaped, and isolated, so that a text
+    /// which is written from right to left does not reorder the words around it.
+    pub(crate) fn push_named(&mut self, before: &str, text: &Text, after: &str)
+        requires before { IsTrue (is_ascii before.now) }
+        requires after { IsTrue (is_ascii after.now) }
+    {
+        self.push_literal(before);
+        self.push_between("<bdi>", text, "</bdi>");
+        self.push_literal(after);
+    }
+
     /// Adds a number in decimal digits between two pieces of markup.
     pub(crate) fn push_counted(&mut self, before: &str, number: u128, after: &str)
         requires before { IsTrue (is_ascii before.now) }

@@ -15,7 +15,7 @@ fn push_given(page: &mut Draft, view: &View<'_>, meet: &Meet, place: u32, resour
         return;
     }
     match role_of(view, meet.event, place) {
-        Some(role) => page.push_between(" <strong class=\"bad\">no ", role, "</strong>"),
+        Some(role) => page.push_named(" <strong class=\"bad\">no ", role, "</strong>"),
         None => page.push_literal(" <strong class=\"bad\">nobody</strong>"),
     }
 }
@@ -26,7 +26,7 @@ fn push_part(page: &mut Draft, view: &View<'_>, number: u32) {
         return;
     };
     match meet.start {
-        Some(time) => page.push_between("<div><b>", time_name(view.raw, time.0), "</b>"),
+        Some(time) => page.push_named("<div><b>", time_name(view.raw, time.0), "</b>"),
         None => page.push_literal("<div><strong class=\"bad\">no time</strong>"),
     }
     if meet.duration > 1 {
@@ -48,7 +48,7 @@ fn push_part(page: &mut Draft, view: &View<'_>, number: u32) {
 /// Adds the row of an event.
 fn push_event(page: &mut Draft, view: &View<'_>, event: u32) {
     page.push_place("<tr id=\"s", view.number, "e", event, "\">");
-    page.push_between(
+    page.push_named(
         "<th scope=\"row\" class=\"n\">",
         event_name(view.raw, event),
         "</th><td>",

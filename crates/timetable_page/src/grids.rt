@@ -107,7 +107,7 @@ fn push_column_head(page: &mut Draft, view: &View<'_>, column: &Column) {
         only_time(view.raw, column)
     };
     match name {
-        Some(name) => page.push_between("<th scope=\"col\">", name, "</th>"),
+        Some(name) => page.push_named("<th scope=\"col\">", name, "</th>"),
         None => page.push_literal("<th scope=\"col\">other times</th>"),
     }
 }
@@ -155,7 +155,7 @@ fn push_monitors(page: &mut Draft, view: &View<'_>, resource: u32, deviations: &
             let constraint = view.inst.monitor(MonitorId(*number)).constraint;
             page.push_str(if any { ", " } else { "<p>Defects: " });
             page.push_place("<a href=\"#s", view.number, "m", *number, "\">");
-            page.push_between("", constraint_name(view.raw, constraint), "</a>");
+            page.push_named("", constraint_name(view.raw, constraint), "</a>");
             any = true;
         }
     }
@@ -174,7 +174,7 @@ fn push_grid(alloc: Global, page: &mut Draft, view: &View<'_>, resource: u32, de
         resource,
         "\">",
     );
-    page.push_between(
+    page.push_named(
         "<h4 class=\"n\">",
         resource_name(view.raw, resource),
         "</h4>\n",
@@ -199,7 +199,7 @@ fn push_table(
     cells: &Seq<Seq<u32>>,
     marks: &Marks,
 ) {
-    page.push_between(
+    page.push_named(
         "<table class=\"grid\"><caption>",
         resource_name(view.raw, resource),
         "</caption>",
@@ -213,7 +213,7 @@ fn push_table(
 
 /// Adds the timetables of the resources of one type.
 fn push_type(alloc: Global, page: &mut Draft, view: &View<'_>, rtype: u32, deviations: &[u64]) {
-    page.push_between("<h3>", type_name(view.raw, rtype), "</h3>\n");
+    page.push_named("<h3>", type_name(view.raw, rtype), "</h3>\n");
     for resource in 0..view.inst.resources() {
         if view.inst.type_of(ResourceId(resource)) == rtype {
             push_grid(alloc, page, view, resource, deviations);

@@ -15,7 +15,7 @@ fn push_said(page: &mut Draft, before: &str, text: &Option<Text>)
     requires { IsTrue (is_ascii before.now) }
 {
     if let Some(text) = text {
-        page.push_between(before, text, "</dd>\n");
+        page.push_named(before, text, "</dd>\n");
     }
 }
 
@@ -32,26 +32,27 @@ fn push_meta_data(page: &mut Draft, meta_data: &MetaData) {
 }
 
 /// What an archive is called.
-fn push_title(page: &mut Draft, unnamed: &Text, archive: &Archive, after: &str)
-    requires { IsTrue (is_ascii after.now) }
-{
+fn archive_name<'a>(unnamed: &'a Text, archive: &'a Archive) -> &'a Text {
     let id = match &archive.id {
         Some(id) => &id.text,
         None => unnamed,
     };
-    page.push_between("", whole_name(&archive.meta_data, id), after);
+    whole_name(&archive.meta_data, id)
 }
 
 /// Adds what comes before the heading, and the heading.
 fn push_heading(page: &mut Draft, unnamed: &Text, archive: &Archive) {
-    page.push_literal("<!DOCTYPE html>\n<html lang=\"en\"><head><meta charset=\"utf-8\"><title>");
-    push_title(page, unnamed, archive, "</title>\n");
+    let name = archive_name(unnamed, archive);
+    page.push_between(
+        "<!DOCTYPE html>\n<html lang=\"en\"><head><meta charset=\"utf-8\"><title>",
+        name,
+        "</title>\n",
+    );
     page.push_literal(
         "<meta name=\"viewport\" content=\"width=device-width,initial-scale=1\">\n<style>\n",
     );
     page.push_str(STYLE);
-    page.push_literal("</style></head><body><header><h1>");
-    push_title(page, unnamed, archive, "</h1>\n");
+    page.push_named("</style></head><body><header><h1>", name, "</h1>\n");
 }
 
 /// Adds how much the archive has, and what it says of itself.

@@ -27,14 +27,14 @@ fn push_head(page: &mut Draft, spelled: &Spelled<'_>) {
     let number = u128::from(spelled.number);
     page.push_counted("<section class=\"sol\" id=\"s", number, "\">");
     page.push_counted("<h2>Solution ", number, ": ");
-    page.push_between("", instance_name(spelled.instance), " ");
-    page.push_between("<small>by ", spelled.group, "</small></h2>\n");
+    page.push_named("", instance_name(spelled.instance), " ");
+    page.push_named("<small>by ", spelled.group, "</small></h2>\n");
     let solution = spelled.solution;
     if let Some(description) = &solution.description {
-        page.push_between("<p>", description, "</p>\n");
+        page.push_named("<p>", description, "</p>\n");
     }
     if let Some(running_time) = &solution.running_time {
-        page.push_between("<p>Running time: ", running_time, "</p>\n");
+        page.push_named("<p>Running time: ", running_time, "</p>\n");
     }
 }
 
@@ -136,7 +136,7 @@ fn push_constraint_row(
 ) {
     page.push_place("<tr id=\"s", number, "c", which, "\"><td>");
     page.push_str(kind_name(&constraint.rule));
-    page.push_between(
+    page.push_named(
         "</td><th scope=\"row\">",
         constraint_name(raw, which),
         "</th><td>",

@@ -31,7 +31,7 @@ caption{position:absolute;width:1px;height:1px;overflow:hidden;clip-path:inset(5
 .bad{color:var(--bad);font-weight:600}
 td.bad{background:var(--badback);border:2px solid var(--bad);font-weight:400}
 td.idle{background:var(--idleback);border-style:dashed}
-td.off{color:var(--soft);background:repeating-linear-gradient(135deg,var(--band) 0 6px,transparent 6px 12px)}
+td.off{color:var(--soft);background:var(--band);border-style:dotted}
 td.none{border:0}
 .mark{display:block;font-weight:700;font-size:.8rem;color:var(--bad)}.idle .mark{color:var(--idle)}
 .best{color:var(--best);font-weight:700;white-space:nowrap}
@@ -52,9 +52,11 @@ border:1px solid var(--line);border-radius:.3rem}
 .grid th[scope=row],.grid thead td{width:1.5rem;min-width:1.5rem}}
 :focus-visible{outline:3px solid var(--link);outline-offset:2px}
 :target{outline:3px solid var(--link);outline-offset:1px}
-@media print{body{max-width:none;padding:0;font-size:9pt}search,noscript{display:none}a{color:inherit;
-text-decoration:none}.one{break-inside:avoid;overflow:visible}.wide{overflow:visible}.sol{break-before:page}
-.grid td{min-width:0}}
+@media print{:root{color-scheme:light;--ink:#000;--soft:#000;--back:#fff;--band:#fff;--line:#888;--link:#000;--bad:#000;
+--badback:#fff;--idle:#000;--idleback:#fff;--best:#000}
+body{max-width:none;padding:0;font-size:9pt}search,noscript{display:none}a,button{color:inherit;text-decoration:none}
+.one{break-inside:avoid;overflow:visible}h3{break-after:avoid}.wide{overflow:visible}.sol{break-before:page}
+tr,li{break-inside:avoid}thead{display:table-header-group}.grid td{min-width:0}}
 "#;
 
 /// What the page does: it sorts the summary by a head, finds resources and events by their names, and opens what a
@@ -63,7 +65,8 @@ pub(crate) const SCRIPT: &str = r##"
 'use strict';
 const all=(s,r)=>Array.from((r||document).querySelectorAll(s));
 const open=e=>{for(let d=e;d;d=d.parentElement)if(d.tagName==='DETAILS')d.open=true};
-const go=()=>{const e=document.getElementById(decodeURIComponent(location.hash.slice(1)));
+const place=()=>{try{return decodeURIComponent(location.hash.slice(1))}catch(fault){return ''}};
+const go=()=>{const e=document.getElementById(place());
  if(e){open(e);const d=e.querySelector('details');if(d&&e.tagName==='TR')d.open=true;e.scrollIntoView()}};
 addEventListener('hashchange',go);go();
 addEventListener('beforeprint',()=>all('details').forEach(d=>d.open=true));

@@ -144,7 +144,7 @@ fn by_instance(alloc: Global, results: &Results<'_>) -> Result<Seq<Seq<u32>>, No
 
 /// Adds a head that sorts its table by its column.
 fn push_sorting_head(page: &mut Draft, name: &Text) {
-    page.push_between(
+    page.push_named(
         "<th scope=\"col\"><button type=\"button\">",
         name,
         "</button></th>",
@@ -159,7 +159,7 @@ fn push_instance_row(
     solutions: &[u32],
 ) {
     let best = least_of(results, solutions);
-    page.push_between("<tr><th scope=\"row\">", instance_name(raw), "</th>");
+    page.push_named("<tr><th scope=\"row\">", instance_name(raw), "</th>");
     let mut group = 0u32;
     for _ in results.archive.solution_groups.as_slice() {
         push_cell(page, results, solutions, group, best);
@@ -198,13 +198,13 @@ fn push_solution_row(page: &mut Draft, results: &Results<'_>, number: u32, outco
     page.push_literal("<tr><th scope=\"row\">");
     if let Some(instance) = results.instances.get(number as usize) {
         if let Some(raw) = results.archive.instances.as_slice().get(*instance as usize) {
-            page.push_between("", instance_name(raw), "");
+            page.push_named("", instance_name(raw), "");
         }
     }
     page.push_literal("</th><td>");
     if let Some(group) = results.groups.get(number as usize) {
         if let Some(title) = group_title(results.archive, *group) {
-            page.push_between("", title, "");
+            page.push_named("", title, "");
         }
     }
     page.push_literal("</td>");
