@@ -1,5 +1,5 @@
 -- The states of an engine stand: the one that it is opened with, and the one after each accepted edit.
-use Rattle.std.proofs.Common.{ℕ, suc, ◌≡◌, ◌≢◌, ◌≤◌, ◌<◌, ◌+◌, inl, inr, Bool, true, false, cond, Option}
+use Rattle.std.proofs.Common.{ℕ, zero, suc, ◌≡◌, ◌≢◌, ◌≤◌, ◌<◌, ◌+◌, ◌-◌, drop, inl, inr, Bool, true, false, cond, Option}
 use Rattle.std.proofs.Common.{Some, None, List, [], ◌∷◌, ◌++◌, length, refl, sym, ap, subst, ◌∙◌, arith, set}
 use Rattle.std.proofs.Common.{get_or}
 use Rattle.std.specs.Prelude.{◌==◌, not, All, AllPairs}
@@ -12,13 +12,14 @@ use Rattle.std.proofs.lemmas.List.Folds.{list_any_none}
 use Rattle.std.proofs.lemmas.List.FromFn.{length-map-range_with_len}
 use Rattle.std.proofs.lemmas.List.Sums.{sum_by-cons, sum_by-remove, sum_by_push}
 use Rattle.std.proofs.lemmas.Option.{slice_get-get_or, slice_get_past, slice_get_within}
-use Rattle.engine_laws.specs.Standing.{Stands}
+use Rattle.engine_laws.specs.Standing.{SavedStand, Stands}
 use Rattle.khe_base.proofs.ListLemmas.{all-there, get-other, get-set}
 use Rattle.khe_base.specs.declared.limits.TheConstants.{GROUPS}
 use Rattle.khe_base.specs.declared.numbers.MonitorId.{MonitorId}
 use Rattle.khe_engine.proofs.StateLaws.{edited_groups, edited_meets, other_sort, refusal_groups, refusal_meets}
 use Rattle.khe_engine.specs.Openings.{IsStateOf}
 use Rattle.khe_engine.specs.States.{State, edited, refusal}
+use Rattle.khe_engine.specs.Worlds.{Saved, around, closed, fresh, from_mark, grown, last_saved}
 use Rattle.khe_instance.specs.Evaluated.{is_detached}
 use Rattle.khe_instance.specs.States.{IsGroup, IsValid}
 use Rattle.khe_instance.specs.WellMade.{AreWellMade}
@@ -28,6 +29,7 @@ use Rattle.khe_instance.specs.declared.states.Plain.{Plain}
 use Rattle.khe_solution.proofs.EditLaws.{edit_slots, edit_valid}
 use Rattle.khe_solution.proofs.OpenLaws.{open_valid}
 use Rattle.khe_told.specs.Valid.{AreValid}
+use Rattle.khe_told.specs.declared.changes.Change.{Change}
 use Rattle.khe_told.specs.declared.edits.Edit.{Edit}
 use Rattle.khe_told.specs.declared.edits.Edit.TheVariants.{Assign, Unassign, MoveTo, Split, Merge, SwapMeets, Give}
 use Rattle.khe_told.specs.declared.edits.Edit.TheVariants.{Take, Regive, SwapTasks, Attach, Detach, MakeGroup}
@@ -227,3 +229,37 @@ opened_stand p plain s made v is = record {
   groups = subst (λ (g : Grouping). AreGroups (length p.monitors) g.groups) (sym is.grouping)
       (opened_groups p GROUPS plain.groups refl v.groups);
 }
+
+-- what is saved at the marks after an edit, and after one is closed
+grown_stand : (p : Parts) (cs : List Change) (xs : List Saved) → SavedStand p xs → SavedStand p (grown cs xs)
+grown_stand p cs [] v = v
+grown_stand p cs (x ∷ xs) v = v
+
+closed_stand : (p : Parts) (xs : List Saved) → SavedStand p xs → SavedStand p (closed xs)
+closed_stand p [] v = v
+closed_stand p (x ∷ []) v = tt
+closed_stand p (x ∷ y ∷ rest) v = v.1
+
+pub marks_stand : (p : Parts) (s : State) (xs : List Saved) → Stands p s → SavedStand p xs
+    → ((cs : List Change) → SavedStand p (grown cs xs)) × SavedStand p (fresh s ∷ xs) × SavedStand p (closed xs)
+marks_stand p s xs v w = (λ cs. grown_stand p cs xs w, (v, w), closed_stand p xs w)
+
+-- back at a mark
+dropped_stand : (p : Parts) (n : ℕ) (xs : List Saved) → SavedStand p xs → SavedStand p (drop n xs)
+dropped_stand p zero xs w = w
+dropped_stand p (suc n) [] w = w
+dropped_stand p (suc n) (x ∷ xs) w = dropped_stand p n xs w.1
+
+back_stand : (p : Parts) (s : State) (xs : List Saved) → Stands p s → SavedStand p xs
+    → Stands p (last_saved s xs) × SavedStand p (fresh (last_saved s xs) ∷ around xs)
+back_stand p s [] v w = (v, (v, tt))
+back_stand p s (x ∷ xs) v w = (w.0, w)
+
+pub undone_stand : (p : Parts) (s : State) (xs : List Saved) → Stands p s → SavedStand p xs
+    → (Stands p (last_saved s xs) × SavedStand p (fresh (last_saved s xs) ∷ around xs))
+    × ((k : ℕ) → Stands p (last_saved s (from_mark k xs))
+    × SavedStand p (fresh (last_saved s (from_mark k xs)) ∷ around (from_mark k xs)))
+undone_stand p s xs v w = (
+  back_stand p s xs v w,
+  λ k. back_stand p s (from_mark k xs) v (dropped_stand p (length xs - k) xs w),
+)

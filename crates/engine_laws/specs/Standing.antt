@@ -1,12 +1,14 @@
 -- States that stand: what an engine may hold.
-use Rattle.std.specs.Prelude.{◌≡◌, None, length}
+use Rattle.std.specs.Prelude.{ℕ, ◌≡◌, None, List, [], ◌∷◌, length}
 use Rattle.khe_engine.specs.Openings.{IsStateOf}
 use Rattle.khe_engine.specs.States.{State, edited, refusal}
+use Rattle.khe_engine.specs.Worlds.{Saved, around, closed, fresh, from_mark, grown, last_saved}
 use Rattle.khe_instance.specs.States.{IsValid}
 use Rattle.khe_instance.specs.WellMade.{AreWellMade}
 use Rattle.khe_instance.specs.declared.parts.Parts.{Parts}
 use Rattle.khe_instance.specs.declared.states.Plain.{Plain}
 use Rattle.khe_told.specs.Valid.{AreValid}
+use Rattle.khe_told.specs.declared.changes.Change.{Change}
 use Rattle.khe_told.specs.declared.edits.Edit.{Edit}
 use Rattle.monitor_graph.specs.Groups.{AreGroups}
 
@@ -25,3 +27,21 @@ OpenedStatesStand = (p : Parts) (plain : Plain) (s : State) → AreWellMade p �
 -- and so does the one after each edit that is accepted
 abbrev pub EditsKeepStanding : Type 0
 EditsKeepStanding = (p : Parts) (s : State) (e : Edit) → Stands p s → refusal p s e ≡ None → Stands p (edited s e)
+
+-- the states that were saved at marks stand
+abbrev pub SavedStand : Parts → List Saved → Type 0
+SavedStand p [] = Unit {0}
+SavedStand p (x ∷ xs) = Stands p x.state × SavedStand p xs
+
+-- where a state and those saved at the marks stand, so do those that are saved after an accepted edit, and after a mark
+-- is opened and closed
+abbrev pub MarksKeepStanding : Type 0
+MarksKeepStanding = (p : Parts) (s : State) (xs : List Saved) → Stands p s → SavedStand p xs
+    → ((cs : List Change) → SavedStand p (grown cs xs)) × SavedStand p (fresh s ∷ xs) × SavedStand p (closed xs)
+
+-- and so do the state and those saved after all is undone since the innermost mark, or since the one with a number
+abbrev pub UndoingKeepsStanding : Type 0
+UndoingKeepsStanding = (p : Parts) (s : State) (xs : List Saved) → Stands p s → SavedStand p xs
+    → (Stands p (last_saved s xs) × SavedStand p (fresh (last_saved s xs) ∷ around xs))
+    × ((k : ℕ) → Stands p (last_saved s (from_mark k xs))
+    × SavedStand p (fresh (last_saved s (from_mark k xs)) ∷ around (from_mark k xs)))

@@ -4,7 +4,7 @@
 ghost use Rattle.engine_laws.specs.Budgets.{LargeBudgetsTell};
 ghost use Rattle.engine_laws.specs.Served.{WatchersAreServed};
 ghost use Rattle.engine_laws.specs.Small.{StatesCostLittle, TimetablesCostLittle};
-ghost use Rattle.engine_laws.specs.Standing.{EditsKeepStanding, OpenedStatesStand};
+ghost use Rattle.engine_laws.specs.Standing.{EditsKeepStanding, MarksKeepStanding, OpenedStatesStand, UndoingKeepsStanding};
 ghost use Rattle.khe_engine.specs.Values.{ServesAll};
 
 use khe_told::Family;
@@ -20,10 +20,14 @@ fn states_cost_little()
     ensures { StatesCostLittle }
 {}
 
-// An engine begins with a state that stands, and each edit that is accepted leads from one to another.
+// An engine begins with a state that stands, and each edit that is accepted leads from one to another. What is saved at
+// the marks stands after each edit and each mark that is opened or closed; and after an undo, also one to a mark with a
+// number, the state and all that are saved stand.
 fn states_stand()
     ensures opened { OpenedStatesStand }
     ensures edited { EditsKeepStanding }
+    ensures marked { MarksKeepStanding }
+    ensures undone { UndoingKeepsStanding }
 {}
 
 // A repair with a budget of more than all chains of one move has lowered the totals, or no chain of one move does.
