@@ -1,17 +1,14 @@
 //! Solutions by their numbers, which are counted over all groups of an archive.
 
-ghost use Rattle.std.specs.Prelude.{◌≡◌, IfSome, Ok, Some};
-ghost use Rattle.xhstt_completion.specs.Numbered.{parts_at};
+ghost use Rattle.std.specs.Prelude.{◌≡◌, Ok};
 ghost use Rattle.xhstt_resolve.specs.Resolved as resolving;
 ghost use Rattle.xhstt_shape.specs.WellFormed.{IsInForm};
 
-use crate::worked::{Worked, read};
+use crate::worked::{Worked, instance_of, read, state_of};
 use khe_base::TimeId;
-use khe_instance::{Instance, Plain};
+use khe_instance::Plain;
 use std::alloc::Global;
 use std::test::Fail;
-use xhstt_completion::solution;
-use xhstt_resolve::Resolved;
 
 /// An archive of two groups. Its first solution starts the event at the third time, its second at the
 /// second time, and its third does not start it.
@@ -32,14 +29,6 @@ const GROUPS: &str = r#"<HighSchoolTimetableArchive>
 </HighSchoolTimetableArchive>
 "#;
 
-/// The instance of the solution with this number, if there is one.
-fn instance_of(resolved: &Resolved, number: u32) -> Option<&Instance>
-    ensures { IfSome result (λ inst. parts_at resolved.now number ≡ Some inst.now) }
-{
-    let instance = resolved.of.as_slice().get(number as usize)?;
-    resolved.instances.as_slice().get(*instance as usize)
-}
-
 /// Whether the solution with this number has one meet, which starts so.
 fn starts_at(alloc: Global, worked: &Worked, number: u32, start: Option<TimeId>) -> bool
     requires formed { IsInForm worked.now.archive }
@@ -48,7 +37,7 @@ fn starts_at(alloc: Global, worked: &Worked, number: u32, start: Option<TimeId>)
     let Some(inst) = instance_of(&worked.resolved, number) else {
         return false;
     };
-    let Ok(plain) = solution(alloc, inst, &worked.archive, &worked.resolved, number) else {
+    let Some(plain) = state_of(alloc, worked, inst, number) else {
         return false;
     };
     let is_so = has_one_meet_at(&plain, start);

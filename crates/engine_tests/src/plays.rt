@@ -1,18 +1,20 @@
 //! Lists of edits, and whether each of them goes as the list has it.
 
-ghost use Rattle.std.specs.Prelude.{◌≡◌, ◌<◌};
+ghost use Rattle.std.specs.Prelude.{◌≡◌, ◌<◌, Ok, Some};
+ghost use Rattle.xhstt_completion.specs.Numbered.{parts_at};
+ghost use Rattle.xhstt_resolve.specs.Resolved as resolving;
+ghost use Rattle.xhstt_shape.specs.WellFormed.{IsInForm};
 
 use crate::moves::{Act, Move};
 use crate::sights::{Sight, heard, heard_back, shows};
 use crate::watched_solutions::Hand;
-use crate::worked::{Worked, read, state_of};
+use crate::worked::{Worked, instance_of, read, state_of};
 use khe_base::NoMemory;
 use khe_instance::Instance;
 use khe_told::{Blank, Refusal, Steps};
 use std::alloc::Global;
 use std::marker::Brand;
 use std::sync::ledger::Ledger;
-use xhstt_shape::RawSolution;
 
 /// What comes of an edit.
 #[derive(Clone, Copy)]
@@ -32,7 +34,7 @@ pub(crate) struct Play {
     /// The archive's text.
     pub archive: &'static str,
     /// The number of the solution.
-    pub solution: usize,
+    pub solution: u32,
     /// The meets before the first edit.
     pub start: &'static [Sight],
     pub steps: &'static [Step],
@@ -49,20 +51,27 @@ pub(crate) fn first_wrong(alloc: Global, play: &Play) -> Result<Option<usize>, N
     wrong
 }
 
-fn wrong_in(alloc: Global, worked: &Worked, play: &Play) -> Result<Option<usize>, NoMemory> {
-    match (worked.instance(), worked.solution(play.solution)) {
-        (Some(inst), Some(raw)) => wrong_on(alloc, inst, raw, play),
-        _ => Ok(Some(play.steps.len())),
+fn wrong_in(alloc: Global, worked: &Worked, play: &Play) -> Result<Option<usize>, NoMemory>
+    requires formed { IsInForm worked.now.archive }
+    requires resolved { resolving.resolved worked.now.archive ≡ Ok worked.now.resolved }
+{
+    match instance_of(&worked.resolved, play.solution) {
+        Some(inst) => wrong_on(alloc, worked, inst, play),
+        None => Ok(Some(play.steps.len())),
     }
 }
 
 fn wrong_on(
     alloc: Global,
+    worked: &Worked,
     inst: &Instance,
-    raw: &RawSolution,
     play: &Play,
-) -> Result<Option<usize>, NoMemory> {
-    let Some(plain) = state_of(alloc, inst, raw) else {
+) -> Result<Option<usize>, NoMemory>
+    requires formed { IsInForm worked.now.archive }
+    requires resolved { resolving.resolved worked.now.archive ≡ Ok worked.now.resolved }
+    requires instance { parts_at worked.now.resolved play.now.solution ≡ Some inst.now }
+{
+    let Some(plain) = state_of(alloc, worked, inst, play.solution) else {
         return Ok(Some(play.steps.len()));
     };
     let hand = Hand::open(alloc, inst, &plain);

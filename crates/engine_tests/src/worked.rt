@@ -1,20 +1,17 @@
 //! Instances and states of them, read from texts.
 
-ghost use Rattle.std.specs.Prelude.{◌≡◌, ◌<◌, ◌^◌, All, IfSome, IsSome, Ok, true, length};
-ghost use Rattle.khe_instance.specs.Named.{resource_named, time_named};
+ghost use Rattle.std.specs.Prelude.{◌≡◌, ◌<◌, ◌^◌, IfSome, Ok, Some, length};
 ghost use Rattle.khe_instance.specs.States.{IsValid};
-ghost use Rattle.khe_instance.specs.WellMade.{IsDuration};
-ghost use Rattle.xhstt_completion.specs.Entries.{IsEntry, IsSolution};
+ghost use Rattle.xhstt_completion.specs.Numbered.{parts_at};
 ghost use Rattle.xhstt_resolve.specs.Resolved as resolving;
 ghost use Rattle.xhstt_shape.specs.WellFormed.{IsInForm};
 
-use khe_base::limits::NUMBER;
 use khe_instance::{Instance, Plain};
 use std::alloc::Global;
-use xhstt_completion::completed;
+use xhstt_completion::solution;
 use xhstt_resolve::{Resolved, resolve};
+use xhstt_shape::Archive;
 use xhstt_shape::reading::archive;
-use xhstt_shape::{Archive, RawEntry, RawGiven, RawSolution, Ref};
 use xhstt_text::elements;
 
 /// An archive with its instances.
@@ -61,88 +58,28 @@ pub(crate) fn read(alloc: Global, text: &str) -> Option<Worked>
     Some(Worked { archive, resolved })
 }
 
-impl Worked {
-    /// Its first instance.
-    pub(crate) fn instance(&self) -> Option<&Instance> {
-        self.resolved.instances.as_slice().first()
-    }
-
-    /// The solution with this number, counted from 0 in the first group.
-    pub(crate) fn solution(&self, number: usize) -> Option<&RawSolution> {
-        let group = self.archive.solution_groups.as_slice().first()?;
-        group.solutions.as_slice().get(number)
-    }
+/// The instance of the solution with this number, counted from 0 over all groups, if there is one.
+pub(crate) fn instance_of(resolved: &Resolved, number: u32) -> Option<&Instance>
+    ensures { IfSome result (λ inst. parts_at resolved.now number ≡ Some inst.now) }
+{
+    let instance = resolved.of.as_slice().get(number as usize)?;
+    resolved.instances.as_slice().get(*instance as usize)
 }
 
-/// The state that a solution says, completed, if it names parts of the instance alone and no entry
-/// is invalid.
-pub(crate) fn state_of(alloc: Global, inst: &Instance, raw: &RawSolution) -> Option<Plain>
+/// The state that the solution with this number says, completed, if no entry is invalid.
+pub(crate) fn state_of(
+    alloc: Global,
+    worked: &Worked,
+    inst: &Instance,
+    number: u32,
+) -> Option<Plain>
+    requires formed { IsInForm worked.now.archive }
+    requires resolved { resolving.resolved worked.now.archive ≡ Ok worked.now.resolved }
+    requires instance { parts_at worked.now.resolved number ≡ Some inst.now }
     ensures { IfSome result (IsValid inst.now) }
 {
-    let Ok(entries) = raw.events.unpacked(alloc) else {
-        return None;
-    };
-    if !is_solution(inst, entries.as_slice()) {
-        return None;
-    }
-    let Ok(plain) = completed(alloc, inst, raw) else {
+    let Ok(plain) = solution(alloc, inst, &worked.archive, &worked.resolved, number) else {
         return None;
     };
     Some(plain)
-}
-
-/// Whether entries name parts of the instance alone.
-fn is_solution(inst: &Instance, entries: &[RawEntry]) -> bool
-    ensures { result ≡ true → All (IsEntry inst.now) entries.now }
-{
-    for entry in entries {
-        if !is_entry(inst, entry) {
-            return false;
-        }
-    }
-    true
-}
-
-fn is_entry(inst: &Instance, entry: &RawEntry) -> bool
-    ensures { result ≡ true → IsEntry inst.now entry.now }
-{
-    let Some(_) = inst.event_named(&entry.reference.id) else {
-        return false;
-    };
-    if !is_duration(entry.duration) {
-        return false;
-    }
-    if !is_time(inst, &entry.time) {
-        return false;
-    }
-    are_resources(inst, entry.resources.as_slice())
-}
-
-fn is_duration(duration: Option<u32>) -> bool
-    ensures { result ≡ true → IfSome duration IsDuration }
-{
-    match duration {
-        Some(times) => 1 <= times && times <= NUMBER,
-        None => true,
-    }
-}
-
-fn is_time(inst: &Instance, time: &Option<Ref>) -> bool
-    ensures { result ≡ true → IfSome time.now (λ t. IsSome (time_named inst.now t.id)) }
-{
-    match time {
-        Some(name) => inst.time_named(&name.id).is_some(),
-        None => true,
-    }
-}
-
-fn are_resources(inst: &Instance, all: &[RawGiven]) -> bool
-    ensures { result ≡ true → All (λ given. IsSome (resource_named inst.now given.reference.id)) all.now }
-{
-    for given in all {
-        let Some(_) = inst.resource_named(&given.reference.id) else {
-            return false;
-        };
-    }
-    true
 }

@@ -13,6 +13,7 @@ use Rattle.xhstt_references.specs.References.{solutions_of}
 use Rattle.xhstt_resolve.specs.Faults.{as_fault}
 use Rattle.xhstt_resolve.specs.Limits.{earliest}
 use Rattle.xhstt_resolve.specs.Parts.{parts_of}
+use Rattle.xhstt_references.specs.Followed.{followed_of}
 use Rattle.xhstt_resolve.specs.Resolved.{archive_fault, instance_fault, instances_of, resolved}
 use Rattle.fault_tables.specs.declared.limits.TheConstants.{TOO_MANY_SOLUTIONS}
 use Rattle.xhstt_resolve.specs.declared.resolving.Resolved.{Resolved}
@@ -79,10 +80,14 @@ made_faultless seed size some few =
 -- so it is resolved
 pub made_resolved : (seed size : ℕ) → 1 ≤ size → size ≤ MADE_EVENTS
     → resolved (made.made seed size)
-    ≡ Ok (record { instances = map parts_of (made.made seed size).instances; of = instances_of (made.made seed size) })
+    ≡ Ok (record {
+      instances = map parts_of (made.made seed size).instances;
+      of = instances_of (made.made seed size);
+      followed = followed_of (made.made seed size);
+    })
 made_resolved seed size some few =
     let a = made.made seed size in
-    let r : Resolved = record { instances = map parts_of a.instances; of = instances_of a } in
+    let r : Resolved = record { instances = map parts_of a.instances; of = instances_of a; followed = followed_of a } in
     ap (λ fault. option_map_or Err fault (Ok r)) (made_faultless seed size some few)
 
 -- the first solution is one of the first instance

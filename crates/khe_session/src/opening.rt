@@ -68,7 +68,11 @@ fn instance_of(resolved: Resolved, number: usize) -> Instance
     requires { number < length resolved.instances }
     ensures { slice_get resolved.instances number ≡ Some result }
 {
-    let Resolved { instances, of: _ } = resolved;
+    let Resolved {
+        instances,
+        of: _,
+        followed: _,
+    } = resolved;
     let mut items = instances.items;
     items.swap_remove(number)
 }

@@ -16,6 +16,7 @@ use Rattle.fault_tables.specs.declared.limits.TheConstants.{TOO_MANY_TIME_GROUPS
 use Rattle.xhstt_references.specs.Faults.{at_first, fault_of_ids, fault_of_instance, fault_of_solutions}
 use Rattle.xhstt_references.specs.declared.faults.ReferenceFault.{ReferenceFault}
 use Rattle.xhstt_references.specs.declared.faults.ReferenceFault.TheVariants as wrong
+use Rattle.xhstt_references.specs.Followed.{followed_of}
 use Rattle.xhstt_resolve.specs.Faults.{as_fault}
 use Rattle.xhstt_resolve.specs.Limits.{above, beyond, earliest, first_above, first_beyond, limit_fault}
 use Rattle.xhstt_resolve.specs.Limits.{listings, task_count, total_duration, units, watch_count}
@@ -289,7 +290,7 @@ of_archive a = none_never
 
 pub resolved_never : (a : Archive) → resolved a ≡ Err resolve.NoMemory → ⊥
 resolved_never a e =
-    by (archive_fault a) (of_archive a) (record { instances = map parts_of a.instances; of = instances_of a }) e
+    by (archive_fault a) (of_archive a) (record { instances = map parts_of a.instances; of = instances_of a; followed = followed_of a }) e
   where
     by : (o : Option ResolveFault) → Never o → (r : Resolved) → option_map_or Err o (Ok r) ≡ Err resolve.NoMemory → ⊥
     by None h r e = cc

@@ -55,6 +55,7 @@ use Rattle.text_laws.proofs.StateLaws.{IsLeft, left_by, repaired_valid, state_th
 use Rattle.text_laws.specs.Read.{IsTimetableOf}
 use Rattle.xhstt_completion.specs.Completed.{completed}
 use Rattle.xhstt_completion.specs.Numbered.{parts_at}
+use Rattle.xhstt_references.specs.Followed.{followed_of}
 use Rattle.xhstt_resolve.specs.Parts.{parts_of}
 use Rattle.xhstt_resolve.specs.Resolved.{instances_of, resolved}
 use Rattle.xhstt_resolve.specs.declared.faults.ResolveFault.{ResolveFault}
@@ -430,7 +431,7 @@ start_is seed size r h =
 pub made_run_there : (seed size : ℕ) → 1 ≤ size → size ≤ MADE_EVENTS → Answer (IsRunTo seed size)
 made_run_there seed size some few =
     let a = made seed size in
-    let r : Resolved = record { instances = map parts_of a.instances; of = instances_of a } in
+    let r : Resolved = record { instances = map parts_of a.instances; of = instances_of a; followed = followed_of a } in
     let e : resolved a ≡ Ok r = made_resolved seed size some few in
     let h = has_start seed size some few r e in
     let begun_is = start_is seed size r h in

@@ -13,6 +13,7 @@ use Rattle.khe_base.specs.Names.{is_among_names, number_of}
 use Rattle.xhstt_references.specs.Directories.{directory_of}
 use Rattle.xhstt_references.specs.Faults.{at_first}
 use Rattle.xhstt_references.specs.Faults as fault
+use Rattle.xhstt_references.specs.Followed as follow
 use Rattle.xhstt_references.specs.Ids as ids
 use Rattle.xhstt_references.specs.References as named
 use Rattle.xhstt_references.specs.declared.directories.Directory.{Directory}
@@ -51,6 +52,7 @@ use Rattle.xhstt_shape.specs.declared.records.SolutionGroup.{SolutionGroup}
 use Rattle.xhstt_shape.specs.declared.records.Time.{Time}
 use Rattle.xhstt_shape.specs.declared.records.TimeGroup.{TimeGroup}
 use Rattle.same_archives.specs.Alike.{placeless, without_place}
+use Rattle.same_archives.proofs.FollowedLaws.{followed_of, instance_ids, solutions_alike}
 use Rattle.same_archives.proofs.LimitLaws as limits
 use Rattle.same_archives.proofs.ListLaws.{chosen_parts, filter_mapped, flat_parts, joined_parts, map_alike, parts_alike}
 use Rattle.same_archives.proofs.PartsLaws as parts
@@ -295,17 +297,6 @@ unknown_in_solution ids ds s =
     by (Some d) = flat_parts (named.unknown_in_entry d) (named.unknown_in_entry d) entry zeroed (unknown_in_entry d)
         s.events
 
-pub solutions_alike : (a : Archive) → named.solutions_of (unplaced a) ≡ map solution (named.solutions_of a)
-unfolding unplaced
-solutions_alike a =
-    flat_parts (λ (g : SolutionGroup). g.solutions) (λ (g : SolutionGroup). g.solutions) solution_group solution
-    (λ g. refl) a.solution_groups
-
-instance_ids : (a : Archive) → ids.instance_ids (unplaced a) ≡ ids.instance_ids a
-unfolding unplaced
-instance_ids a = map_alike (λ (i : RawInstance). i.id.text) (λ (i : RawInstance). i.id.text) instance (λ i. refl)
-    a.instances
-
 directories : (a : Archive) → map directory_of (unplaced a).instances ≡ map directory_of a.instances
 unfolding unplaced
 directories a = map_alike directory_of directory_of instance directory_alike a.instances
@@ -427,11 +418,19 @@ cut_answer (Some fault) r = refl
 resolved_alike : (a : Archive) → without_place (solved.resolved (unplaced a)) ≡ without_place (solved.resolved a)
 resolved_alike a =
     cut_answer (solved.archive_fault (unplaced a))
-    (record { instances = map parts_of (unplaced a).instances; of = solved.instances_of (unplaced a) })
+    (record {
+      instances = map parts_of (unplaced a).instances;
+      of = solved.instances_of (unplaced a);
+      followed = follow.followed_of (unplaced a);
+    })
     ∙ (λ j. option_map_or Err (archive_fault a j)
-    (Ok (record { instances = instance_parts a j; of = instances_of a j })))
+    (Ok (record { instances = instance_parts a j; of = instances_of a j; followed = followed_of a j })))
     ∙ sym (cut_answer (solved.archive_fault a)
-    (record { instances = map parts_of a.instances; of = solved.instances_of a }))
+    (record {
+      instances = map parts_of a.instances;
+      of = solved.instances_of a;
+      followed = follow.followed_of a;
+    }))
 
 pub same_resolve : (a b : Archive) → IsSame a b → without_place (solved.resolved a) ≡ without_place (solved.resolved b)
 same_resolve a b e =

@@ -26,7 +26,7 @@ use Rattle.xhstt_shape.specs.declared.records.RawEntry.{RawEntry}
 use Rattle.xhstt_shape.specs.declared.records.RawGiven.{RawGiven}
 use Rattle.xhstt_shape.specs.declared.records.RawSolution.{RawSolution}
 use Rattle.xhstt_shape.specs.declared.records.Ref.{Ref}
-use Rattle.same_archives.proofs.FaultLaws.{solutions_alike}
+use Rattle.same_archives.proofs.FollowedLaws.{solutions_alike}
 use Rattle.same_archives.proofs.ListLaws.{any_alike, filter_mapped, found_mapped, numbered_alike, numbered_map}
 use Rattle.same_archives.proofs.ListLaws.{parts_alike, sum_alike}
 

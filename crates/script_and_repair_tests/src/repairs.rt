@@ -1,12 +1,14 @@
 //! Whether repairs come to what the cases say.
 
-ghost use Rattle.std.specs.Prelude.{◌≡◌, ◌<◌, ◌≤◌, []};
+ghost use Rattle.std.specs.Prelude.{◌≡◌, ◌<◌, ◌≤◌, [], Ok};
 ghost use Rattle.khe_engine.specs.Values.{ServesAll};
 ghost use Rattle.khe_instance.specs.States.{IsValid};
+ghost use Rattle.xhstt_resolve.specs.Resolved as resolving;
+ghost use Rattle.xhstt_shape.specs.WellFormed.{IsInForm};
 
 use crate::archives::{CROSSED, SPLIT};
 use crate::cases::{Case, OF_CROSSED, OF_SMALL, OF_SPLIT};
-use crate::worked::{Worked, read, state_of};
+use crate::worked::{Worked, instance_of, read, state_of};
 use ejection_repair::{Outcome, repair};
 use khe_base::{NoMemory, Totals};
 use khe_engine::Engine;
@@ -73,12 +75,14 @@ fn repaired<F: Family + Drop>(
 }
 
 /// Whether the case of an archive comes out as it says.
-fn is_right(alloc: Global, worked: &Worked, case: &Case) -> bool {
-    let (Some(inst), Some(raw)) = (worked.instance(), worked.solution(case.solution as usize))
-    else {
+fn is_right(alloc: Global, worked: &Worked, case: &Case) -> bool
+    requires formed { IsInForm worked.now.archive }
+    requires resolved { resolving.resolved worked.now.archive ≡ Ok worked.now.resolved }
+{
+    let Some(inst) = instance_of(&worked.resolved, case.solution) else {
         return false;
     };
-    let Some(plain) = state_of(alloc, inst, raw) else {
+    let Some(plain) = state_of(alloc, worked, inst, case.solution) else {
         return false;
     };
     match repaired::<Families>(alloc, inst, &plain, case) {

@@ -1,10 +1,13 @@
 //! What many repairs come to, by several workers.
 
+ghost use Rattle.std.specs.Prelude.{◌≡◌, Ok};
 ghost use Rattle.khe_engine.specs.Values.{ServesAll};
 ghost use Rattle.khe_instance.specs.States.{IsValid};
+ghost use Rattle.xhstt_resolve.specs.Resolved as resolving;
+ghost use Rattle.xhstt_shape.specs.WellFormed.{IsInForm};
 
 use crate::archives::SPLIT;
-use crate::worked::{Worked, read, state_of};
+use crate::worked::{Worked, instance_of, read, state_of};
 use khe_base::{NoMemory, Totals};
 use khe_instance::{Instance, Plain};
 use khe_io::Gate;
@@ -66,11 +69,14 @@ fn is_right<R: Threads + Sync, G: Gate>(
     worked: &Worked,
     case: &Case<'_>,
     gate: &G,
-) -> bool {
-    let (Some(inst), Some(raw)) = (worked.instance(), worked.solution(0)) else {
+) -> bool
+    requires formed { IsInForm worked.now.archive }
+    requires resolved { resolving.resolved worked.now.archive ≡ Ok worked.now.resolved }
+{
+    let Some(inst) = instance_of(&worked.resolved, 0) else {
         return false;
     };
-    let Some(start) = state_of(alloc, inst, raw) else {
+    let Some(start) = state_of(alloc, worked, inst, 0) else {
         return false;
     };
     match solved::<Families, R, G>(rt, alloc, inst, &start, case, gate) {

@@ -9,7 +9,7 @@ use Rattle.std.proofs.lemmas.List.Concat.{flat_map-cons}
 use Rattle.std.proofs.lemmas.Option.{slice_get-map, slice_get_within}
 use Rattle.khe_base.proofs.ListLemmas.{get-set}
 use Rattle.repair_run.specs.Placed.{archive_with, group_with, groups_with}
-use Rattle.same_archives.proofs.FaultLaws.{solutions_alike}
+use Rattle.same_archives.proofs.FollowedLaws.{solutions_alike}
 use Rattle.xhstt_references.specs.References.{solutions_of}
 use Rattle.xhstt_shape.specs.Places.{IsSame, solution, solution_group, unplaced}
 use Rattle.xhstt_shape.specs.declared.records.Archive.{Archive}

@@ -11,6 +11,7 @@ use Rattle.xhstt_entries.proofs.SpellableLaws.{parts_spellable}
 use Rattle.xhstt_completion.specs.Numbered.{parts_at}
 use Rattle.xhstt_completion.proofs.Resolved.{resolved-as}
 use Rattle.xhstt_references.specs.Faults.{fault_of_ids, fault_of_instance}
+use Rattle.xhstt_references.specs.Followed.{followed_of}
 use Rattle.xhstt_resolve.proofs.WellMade.{parts-well-made}
 use Rattle.xhstt_resolve.specs.Faults.{as_fault}
 use Rattle.xhstt_resolve.specs.Limits.{earliest, limit_fault}
@@ -48,7 +49,7 @@ pub faultless : (a : Archive) (r : Resolved) → resolved a ≡ Ok r → archive
 faultless a r e = by (archive_fault a) refl e
   where
     by : (o : Option ResolveFault) → archive_fault a ≡ o
-        → option_map_or Err o (Ok (record { instances = map parts_of a.instances; of = instances_of a })) ≡ Ok r
+        → option_map_or Err o (Ok (record { instances = map parts_of a.instances; of = instances_of a; followed = followed_of a })) ≡ Ok r
         → archive_fault a ≡ None
     by None is e = is
     by (Some fault) is e = absurd (let g : ⊥ = cc in g)

@@ -40,6 +40,7 @@ use Rattle.xhstt_completion.specs.Entries.{IsEntry, IsSolution}
 use Rattle.xhstt_completion.specs.declared.faults.Cause.{Cause}
 use Rattle.xhstt_entries.proofs.EntryLaws.{each_entry}
 use Rattle.xhstt_entries.specs.Spelled.{entries_of, spelled}
+use Rattle.xhstt_references.specs.Followed.{followed_of}
 use Rattle.xhstt_references.specs.References.{solutions_of}
 use Rattle.xhstt_resolve.specs.Resolved.{resolved}
 use Rattle.xhstt_resolve.specs.declared.resolving.Resolved.{Resolved}
@@ -121,12 +122,15 @@ module _ (a : Archive) (r : Resolved) (number : ℕ) (p : Parts) (plain : Plain)
   same_written : respelled a number p left ≡ c
   same_written = ap (λ o. option_map_or (λ raw. archive_with (spelled p left raw) number a) o a) x.there
 
-  resolves : resolved c ≡ Ok r
+  abbrev again : Resolved
+  again = record r { followed = followed_of c }
+
+  resolves : resolved c ≡ Ok again
   resolves = resolved_with a r number old p (entries_of p left) e x.there x.parts entries
 
   -- the solution of an archive that is the same
   solution_of : (b : Archive) → unplaced c ≡ unplaced b
-      → (t : Plain) × IsTimetableOf b r number p t × (totals p t ≡ totals p (cleared left))
+      → (t : Plain) × IsTimetableOf b again number p t × (totals p t ≡ totals p (cleared left))
   solution_of b same =
       let costs = written_costs_as_before p (cleared left) old made valid in
       let there : option_map (completed p) (slice_get (solutions_of b) number) ≡ Some (Ok costs.0) =
@@ -146,13 +150,16 @@ module _ (a : Archive) (r : Resolved) (number : ℕ) (p : Parts) (plain : Plain)
         s.0,
         record {
           archive = b;
+          again = again;
           bytes_are = are ∙ ap (λ xs. xs ++ encode_utf8_all line) (same_spelling (respelled a number p left) b is.4);
           read = record {
             tree = is.0;
             spelled = is.2;
             shape = is.3;
-            resolved_is = same_resolved c b r same resolves;
+            resolved_is = same_resolved c b again same resolves;
           };
+          instances = refl;
+          of = refl;
           same = ap unplaced (sym (entries_only a number old (entries_of p left) x.there)) ∙ same_emptied number c b same;
           solution = s.1;
         },

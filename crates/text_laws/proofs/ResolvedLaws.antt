@@ -1,4 +1,4 @@
--- An archive in which the entries of a solution are those of a timetable resolves as before.
+-- An archive in which the entries of a solution are those of a timetable resolves to the same instances as before.
 use Rattle.std.proofs.Common.{ℕ, ◌≡◌, ◌∙◌, refl, sym, ap, ap₂, subst, Bool, true, false, not, cond, Option, Some, None}
 use Rattle.std.proofs.Common.{Ok, List, [], ◌∷◌, ◌++◌, map, length, slice_get, flat_map, option_map, All, IfSome, set}
 use Rattle.std.specs.Prelude.{IsSome, unwrap_or}
@@ -26,6 +26,7 @@ use Rattle.xhstt_completion.specs.Entries.{IsEntry}
 use Rattle.xhstt_completion.specs.Numbered.{parts_at}
 use Rattle.xhstt_references.specs.Directories.{directory_of}
 use Rattle.xhstt_references.specs.Faults.{at_first, fault_of_ids, fault_of_solutions}
+use Rattle.xhstt_references.specs.Followed.{followed_of}
 use Rattle.xhstt_references.specs.Ids.{event_ids, instance_ids, resource_ids, time_ids}
 use Rattle.xhstt_references.specs.References.{repeated, solutions_of, unknown, unknown_in_entry, unknown_in_given}
 use Rattle.xhstt_references.specs.References.{unknown_in_solution, unknown_in_solutions, unknown_one}
@@ -215,10 +216,12 @@ module _ (a : Archive) (r : Resolved) (held : IsResolvedAs a r) (n : ℕ) (old :
         ap (map number) (solutions_set (record old { events = es }) n a)
         ∙ set_same number (solutions_of a) n old (record old { events = es }) at refl
 
-    resolves : resolved b ≡ Ok r
-    resolves = resolved-sound b r unfaulted held.instances (held.of ∙ sym same_instances)
+    resolves : resolved b ≡ Ok (record r { followed = followed_of b })
+    resolves = resolved-sound b (record r { followed = followed_of b }) unfaulted held.instances (held.of ∙ sym same_instances) refl
 
+-- it resolves to the same instances; what the entries name is another matter
 pub resolved_with : (a : Archive) (r : Resolved) (n : ℕ) (old : RawSolution) (p : Parts) (es : List RawEntry)
     → resolved a ≡ Ok r → slice_get (solutions_of a) n ≡ Some old → parts_at r n ≡ Some p → All (IsEntry p) es
-    → resolved (archive_with (record old { events = es }) n a) ≡ Ok r
+    → resolved (archive_with (record old { events = es }) n a)
+    ≡ Ok (record r { followed = followed_of (archive_with (record old { events = es }) n a) })
 resolved_with a r n old p es e at parts is = resolves a r (resolved-as a r e) n old p at parts es is (faultless a r e)

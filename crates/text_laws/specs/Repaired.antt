@@ -16,15 +16,18 @@ use Rattle.xhstt_writer.specs.Archives.{canonical}
 use Rattle.text_laws.specs.Read.{IsArchiveOf, IsSameBut, IsTimetableOf}
 
 -- bytes are the spelling of an archive and a line after it; they are read as that archive, which is the same as this
--- one but for the entries of the solution with this number, and has the same instances; and its solution with that
--- number says a timetable
+-- one but for the entries of the solution with this number, and has the same instances, each of its solutions the
+-- instance that it had; and its solution with that number says a timetable
 pub record IsWrittenWith (line : List ℕ) (a : Archive) (r : Resolved) (number : ℕ) (p : Parts) (bytes : List ℕ)
     (timetable : Plain) : Type 0 where
   pub archive : Archive
   pub bytes_are : bytes ≡ canonical archive ++ encode_utf8_all line
-  pub read : IsArchiveOf bytes archive r
+  pub again : Resolved
+  pub read : IsArchiveOf bytes archive again
+  pub instances : again.instances ≡ r.instances
+  pub of : again.of ≡ r.of
   pub same : IsSameBut number a archive
-  pub solution : IsTimetableOf archive r number p timetable
+  pub solution : IsTimetableOf archive again number p timetable
 
 -- bytes are read as a repaired archive: the timetable costs what the line on the repair says; that is what the one
 -- before it cost, where no chain was taken, and else less

@@ -2,8 +2,9 @@
 //! no days, or else one row of all times.
 
 use crate::naming::{shown, time_name};
-use khe_base::{Names, NoMemory, Seq, Text, beside};
+use khe_base::{NoMemory, Seq, Text, beside};
 use std::alloc::Global;
+use xhstt_references::{Names, Seed};
 use xhstt_shape::{RawInstance, Ref, Time, TimeSort};
 
 /// A column of a grid: its head, and its times from the top.
@@ -45,7 +46,11 @@ fn reference_of(time: &Time, sort: TimeSort) -> &Option<Ref> {
 
 /// The Ids of all time groups, in order.
 fn group_names(alloc: Global, raw: &RawInstance) -> Result<Names, NoMemory> {
-    let mut names = Names::new(alloc);
+    let mut seed = Seed::new();
+    for group in raw.time_groups.as_slice() {
+        seed.add(group.id.text.spelling());
+    }
+    let mut names = Names::new(alloc, seed.number());
     for group in raw.time_groups.as_slice() {
         let _ = names.insert(&group.id.text)?;
     }

@@ -5,7 +5,7 @@ use Rattle.std.proofs.Common.{filter_map}
 use Rattle.std.proofs.Common.{length-append, inl, inr}
 use Rattle.std.proofs.Common.{true, if◌then◌else◌, find}
 use Rattle.std.specs.Option.{option_map, option_and_then}
-use Rattle.std.proofs.lemmas.List.{length-map}
+use Rattle.std.proofs.lemmas.List.{length-map, get_or_default}
 use Rattle.std.proofs.lemmas.List.Elements.{All-head, All-tail}
 use Rattle.std.proofs.lemmas.List.Quantifiers.{position-Some}
 use Rattle.std.proofs.lemmas.Option.{none-some, slice_get_within, slice_get_read, slice_get-get_or, same_Some}
@@ -25,7 +25,7 @@ use Rattle.xhstt_completion.proofs.PartsLemmas.{slice_get-append_left, slice_get
 use Rattle.xhstt_completion.specs.Completed.{given_for}
 use Rattle.xhstt_completion.specs.Entries.{resource_of, role_of, time_of}
 use Rattle.xhstt_completion.specs.Found.{AreFound, IsFound, NameEvents}
-use Rattle.xhstt_completion.specs.declared.lookups.Named.{Named}
+use Rattle.xhstt_references.specs.declared.following.Named.{Named}
 use Rattle.xhstt_shape.specs.declared.records.RawEntry.{RawEntry}
 use Rattle.xhstt_shape.specs.declared.records.RawGiven.{RawGiven}
 
@@ -95,7 +95,7 @@ found-last p given more entry n event time first all is =
     }
 
 -- what was found stays so when more resources come
-found-longer : (p : Parts) (given more : List ResourceId) (entry : RawEntry) (n : Named) → IsFound p given entry n
+pub found-longer : (p : Parts) (given more : List ResourceId) (entry : RawEntry) (n : Named) → IsFound p given entry n
     → IsFound p (given ++ more) entry n
 found-longer p given more entry n is = record {
   event = is.event;
@@ -104,34 +104,6 @@ found-longer p given more entry n is = record {
   resources = is.resources ∙ ap (map (λ x. Some x)) (sym (piece-longer n.first (length entry.resources) given more
       is.within));
 }
-
--- one more entry
-pub found-more : (p : Parts) (entries : List RawEntry) (named : List Named) (given more : List ResourceId)
-    (entry : RawEntry) (n : Named)
-    → AreFound p entries named given → slice_get entries (length named) ≡ Some entry
-    → IsFound p (given ++ more) entry n
-    → AreFound p entries (named ++ n ∷ []) (given ++ more)
-found-more p entries named given more entry n old at is i e m at_e at_m = elim (slice_get_cases named i).1 [
-  | inl there ↦
-      (let found : slice_get named i ≡ Some m =
-      sym (slice_get-append_left named (n ∷ []) i there.1) ∙ at_m in
-      found-longer p given more e m (old i e m at_e found))
-  | inr past ↦
-      (let last : slice_get (n ∷ []) (i - length named) ≡ Some m =
-      sym (slice_get-append_right named (n ∷ []) i past.0) ∙ at_m in
-      let within : i - length named < 1 = slice_get_within (n ∷ []) (i - length named) m last in
-      let here : i ≡ length named = omega (arith, within, past.0) in
-      let same : n ≡ m = same_Some n m (ap (slice_get (n ∷ []))
-      (let z : 0 ≡ i - length named = omega (arith, here) in z)
-      ∙ last) in
-      let same_entry : entry ≡ e = same_Some entry e (sym at ∙ ap (slice_get entries) (sym here) ∙ at_e) in
-      subst (λ x. IsFound p (given ++ more) x m) same_entry (subst (λ x. IsFound p (given ++ more) entry x) same is))
-]
-
--- so far nothing is found
-pub found-none : (p : Parts) (entries : List RawEntry) (named : List Named) (given : List ResourceId) → named ≡ []
-    → AreFound p entries named given
-found-none p entries named given is i e m at_e at_m = absurd (none-some m (sym (ap (λ ns. slice_get ns i) is) ∙ at_m))
 
 -- the number of one of the resources that an entry gives
 pub given-taken : (p : Parts) (given : List RawGiven) (resources : List ResourceId) (i : ℕ) (one : RawGiven)
@@ -182,3 +154,14 @@ pub found-there : (p : Parts) (entries : List RawEntry) (named : List Named) (gi
 found-there p entries named given i entry n each many l at_e at_n =
     each i entry n (slice_get_read entries _ i entry refl l at_e)
     (slice_get_read named _ i n refl (omega (arith, l, many)) at_n)
+
+-- the same where it was read from a row that has what was found
+pub found-read : (p : Parts) (entries : List RawEntry) (named row : List Named) (given : List ResourceId) (i : ℕ)
+    (entry : RawEntry) (d : Named)
+    → AreFound p entries named given → length named ≡ length entries → row ≡ named → i < length entries
+    → entry ≡ get_or entries i entry → IsFound p given entry (get_or row i d)
+found-read p entries named row given i entry d each many same l at_e =
+    let n = get_or row i d in
+    let low : i < length row = omega (arith, l, many, ap length same) in
+    found-there p entries named given i entry n each many l at_e
+    (get_or_default row i d n low ∙ ap (λ xs. get_or xs i n) same)

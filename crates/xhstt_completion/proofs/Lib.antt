@@ -2,6 +2,7 @@ pub mod CausesLemmas
 pub mod ChainLemmas
 pub mod EventLemmas
 pub mod FitLemmas
+pub mod FollowedLemmas
 pub mod FoundLemmas
 pub mod ManyLemmas
 pub mod PartFacts

@@ -1,10 +1,10 @@
 -- An archive that was resolved: each solution has its instance, of which its references name parts.
-use Rattle.std.proofs.Common.{ℕ, ◌≡◌, ◌≤◌, true, Option, Some, None, IsSome, IfSome, is_some, Ok, Err, List}
+use Rattle.std.proofs.Common.{ℕ, ◌≡◌, ◌≤◌, ◌<◌, true, Option, Some, None, IsSome, IfSome, is_some, Ok, Err, List}
 use Rattle.std.proofs.Common.{[], ◌∷◌, ◌++◌, length, map, refl, sym, ap, subst, ◌∙◌, arith, slice_get, option_map, All}
 use Rattle.std.proofs.Common.{flat_map, inl, inr}
 use Rattle.std.specs.Option.{option_and_then, option_map_or, option_or}
 use Rattle.std.specs.Prelude.{unwrap_or}
-use Rattle.std.proofs.lemmas.Option.{slice_get-map, slice_get_cases, same_Some}
+use Rattle.std.proofs.lemmas.Option.{slice_get-map, slice_get_cases, slice_get_within, same_Some}
 use Rattle.std.proofs.lemmas.List.{length-map}
 use Rattle.std.proofs.lemmas.List.Concat.{flat_map-cons}
 use Rattle.std.proofs.lemmas.List.Elements.{All-nil, All-cons, All-head, All-tail, All-append, All-weaker}
@@ -14,15 +14,19 @@ use Rattle.khe_base.specs.Names.{is_among_names, number_of}
 use Rattle.khe_base.specs.declared.limits.TheConstants.{SOLUTIONS}
 use Rattle.khe_instance.specs.Named.{event_named, time_named, resource_named}
 use Rattle.khe_instance.specs.declared.parts.Parts.{Parts}
+use Rattle.xhstt_completion.proofs.FollowedLemmas.{followed-many, followed-found}
 use Rattle.xhstt_completion.specs.Entries as entries
+use Rattle.xhstt_completion.specs.Found.{AreFound}
 use Rattle.xhstt_completion.specs.Numbered.{parts_at, IsOne}
 use Rattle.xhstt_references.proofs.ToldLemmas.{none_left}
 use Rattle.xhstt_references.specs.Ids.{instance_ids, time_ids, resource_ids, event_ids}
 use Rattle.xhstt_references.specs.References.{unknown, unknown_one, unknown_in_entry, unknown_in_given}
 use Rattle.xhstt_references.specs.References.{unknown_in_solution, unknown_in_solutions, solutions_of}
-use Rattle.xhstt_references.specs.Directories.{directory_of}
+use Rattle.xhstt_references.specs.Directories.{directory_of, part_names}
 use Rattle.xhstt_references.specs.Faults.{fault_of_solutions}
+use Rattle.xhstt_references.specs.Followed.{followed, followed_in, followed_of, nothing}
 use Rattle.xhstt_references.specs.declared.directories.Directory.{Directory}
+use Rattle.xhstt_references.specs.declared.following.Followed.{Followed}
 use Rattle.fault_tables.specs.declared.faults.TheConstants.{UNKNOWN_REFERENCE}
 use Rattle.xhstt_resolve.proofs.WellMadeFaults.{not-above}
 use Rattle.xhstt_resolve.proofs.WellMadeIds.{event-ids, resource-ids}
@@ -113,11 +117,13 @@ none-mapped f (Some x) e = absurd (let g : ⊥ = cc in g)
 pub record IsResolvedAs (a : Archive) (r : Resolved) : Type 0 where
   pub instances : r.instances ≡ map parts_of a.instances
   pub of : r.of ≡ instances_of a
+  pub followed : r.followed ≡ followed_of a
   pub few : length (solutions_of a) ≤ SOLUTIONS
   pub known : unknown_in_solutions a ≡ []
 
 without : (a : Archive) (r : Resolved) → archive_fault a ≡ None
-    → r ≡ record { instances = map parts_of a.instances; of = instances_of a } → IsResolvedAs a r
+    → r ≡ record { instances = map parts_of a.instances; of = instances_of a; followed = followed_of a }
+    → IsResolvedAs a r
 without a r sound same =
     let first = neither _ _ sound in
     let second = neither _ _ first.1 in
@@ -127,6 +133,7 @@ without a r sound same =
     record {
       instances = ap (λ x. x.instances) same;
       of = ap (λ x. x.of) same;
+      followed = ap (λ x. x.followed) same;
       few = not-above TOO_MANY_SOLUTIONS SOLUTIONS (length (solutions_of a)) number.0;
       known = none_left UNKNOWN_REFERENCE (unknown_in_solutions a)
           (none-mapped as_fault (fault_of_solutions a) references.0);
@@ -136,7 +143,8 @@ pub resolved-as : (a : Archive) (r : Resolved) → resolved a ≡ Ok r → IsRes
 resolved-as a r e = by (archive_fault a) refl e
   where
     by : (o : Option ResolveFault) → archive_fault a ≡ o
-        → option_map_or Err o (Ok (record { instances = map parts_of a.instances; of = instances_of a })) ≡ Ok r
+        → option_map_or Err o
+        (Ok (record { instances = map parts_of a.instances; of = instances_of a; followed = followed_of a })) ≡ Ok r
         → IsResolvedAs a r
     by None is e = without a r is cc
     by (Some fault) is e = absurd (let g : ⊥ = cc in g)
@@ -146,6 +154,9 @@ pub record IsPlaced (r : Resolved) (number : ℕ) (raw : RawSolution) : Type 0 w
   pub parts : Parts
   pub at : parts_at r number ≡ Some parts
   pub solution : entries.IsSolution parts raw
+  pub instance : RawInstance
+  pub is : parts_of instance ≡ parts
+  pub followed : slice_get r.followed number ≡ Some (followed (part_names instance) raw.events)
 
 one-placed : (a : Archive) (r : Resolved) → IsResolvedAs a r
     → All (λ s. unknown_in_solution (instance_ids a) (map directory_of a.instances) s ≡ []) (solutions_of a)
@@ -170,6 +181,14 @@ one-placed a r held none form k raw at =
           let number : slice_get r.of k ≡ Some place.n =
           ap (λ xs. slice_get xs k) held.of ∙ slice_get-map g (solutions_of a) k ∙ ap (option_map g) at
           ∙ ap (λ o. Some (unwrap_or o 0)) place.is in
+          let h = followed_in (map part_names a.instances) (instance_ids a) in
+          let name : option_and_then (λ n. slice_get (map part_names a.instances) n)
+          (number_of raw.reference.id (instance_ids a)) ≡ Some (part_names i) =
+          ap (λ o. option_and_then (λ n. slice_get (map part_names a.instances) n) o) place.is
+          ∙ slice_get-map part_names a.instances place.n ∙ ap (option_map part_names) there.2 in
+          let follows : slice_get r.followed k ≡ Some (followed (part_names i) raw.events) =
+          ap (λ xs. slice_get xs k) held.followed ∙ slice_get-map h (solutions_of a) k ∙ ap (option_map h) at
+          ∙ ap (λ o. Some (option_map_or (λ n. followed n raw.events) o nothing)) name in
           let instance : slice_get r.instances place.n ≡ Some (parts_of i) =
           ap (λ xs. slice_get xs place.n) held.instances ∙ slice_get-map parts_of a.instances place.n
           ∙ ap (option_map parts_of) there.2 in
@@ -178,6 +197,9 @@ one-placed a r held none form k raw at =
             at = ap (λ o. option_and_then (λ n. slice_get r.instances n) o) number ∙ instance;
             solution = entries-known i raw.events (none-each (unknown_in_entry (directory_of i)) raw.events clear)
                 (all-there formed.IsSolution (solutions_of a) k raw form at);
+            instance = i;
+            is = refl;
+            followed = follows;
           })
       | inr past ↦ absurd (omega (arith, place.within, past.0, length-map a.instances (λ i. i.id.text)))
     ]
@@ -197,9 +219,53 @@ one a r e form k raw at =
     let is = placed a r e form k raw at in
     record { parts = is.parts; at = is.at; archive = a; formed = form; resolved_is = e; found = at }
 
+-- what the entries of a solution name was followed
+pub record IsFollowed (r : Resolved) (number : ℕ) (p : Parts) (entries : List RawEntry) : Type 0 where
+  pub there : number < length r.followed
+  pub many : (f : Followed) → slice_get r.followed number ≡ Some f → length f.named ≡ length entries
+  pub each : (f : Followed) → slice_get r.followed number ≡ Some f → AreFound p entries f.named f.given
+
+pub is_followed : (r : Resolved) (k : ℕ) (raw : RawSolution) (p : Parts) → IsOne r k raw → parts_at r k ≡ Some p
+    → IsFollowed r k p raw.events
+is_followed r k raw p one at =
+    let is = placed one.archive r one.resolved_is one.formed k raw one.found in
+    let i = is.instance in
+    let same : parts_of i ≡ p = is.is ∙ same_Some is.parts p (sym is.at ∙ at) in
+    let own = followed (part_names i) raw.events in
+    let named : All (entries.IsEntry (parts_of i)) raw.events =
+    subst (λ q. All (entries.IsEntry q) raw.events) (sym is.is) is.solution in
+    record {
+      there = slice_get_within r.followed k own is.followed;
+      many = λ f found.
+          ap (λ g. length g.named) (same_Some f own (sym found ∙ is.followed))
+          ∙ followed-many (part_names i) 0 raw.events;
+      each = λ f found.
+          subst (λ q. AreFound q raw.events f.named f.given) same
+          (subst (λ g. AreFound (parts_of i) raw.events g.named g.given) (sym (same_Some f own (sym found ∙ is.followed)))
+          (followed-found i raw.events named));
+    }
+
 -- the references of a solution name parts of its instance
 pub is_solution : (r : Resolved) (k : ℕ) (raw : RawSolution) (p : Parts) → IsOne r k raw → parts_at r k ≡ Some p
     → entries.IsSolution p raw
 is_solution r k raw p one at =
     let is = placed one.archive r one.resolved_is one.formed k raw one.found in
     subst (λ q. entries.IsSolution q raw) (same_Some is.parts p (sym is.at ∙ at)) is.solution
+
+-- a number with an instance is that of a solution
+numbered : (r : Resolved) (number : ℕ) (p : Parts) → parts_at r number ≡ Some p → number < length r.of
+numbered r number p at = by (slice_get r.of number) refl at
+  where
+    by : (o : Option ℕ) → slice_get r.of number ≡ o → option_and_then (λ k. slice_get r.instances k) o ≡ Some p
+        → number < length r.of
+    by None is e = absurd (let g : ⊥ = cc in g)
+    by (Some k) is e = slice_get_within r.of number k is
+
+pub solution_there : (a : Archive) (r : Resolved) (number : ℕ) (p : Parts) → resolved a ≡ Ok r
+    → parts_at r number ≡ Some p → number < length (solutions_of a)
+solution_there a r number p e at =
+    let count : length r.of ≡ length (solutions_of a) =
+    ap length (resolved-as a r e).of
+    ∙ length-map (solutions_of a) (λ s. unwrap_or (number_of s.reference.id (instance_ids a)) 0)
+    in
+    omega (arith, count, numbered r number p at)

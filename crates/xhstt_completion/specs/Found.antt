@@ -4,7 +4,7 @@ use Rattle.khe_base.specs.declared.numbers.ResourceId.{ResourceId}
 use Rattle.khe_instance.specs.Named.{event_named}
 use Rattle.khe_instance.specs.declared.parts.Parts.{Parts}
 use Rattle.xhstt_completion.specs.Entries.{time_of, resource_of}
-use Rattle.xhstt_completion.specs.declared.lookups.Named.{Named}
+use Rattle.xhstt_references.specs.declared.following.Named.{Named}
 use Rattle.xhstt_shape.specs.declared.records.RawEntry.{RawEntry}
 
 -- the event, the time and the resources that an entry names, which stand from a place on

@@ -5,10 +5,10 @@ ghost use Rattle.xhstt_completion.specs.Chains.{IsChain};
 ghost use Rattle.xhstt_completion.specs.Entries.{entries_of};
 ghost use Rattle.xhstt_completion.specs.Found.{NameEvents};
 
-use crate::lookups::Named;
 use khe_base::NoMemory;
 use khe_instance::Instance;
 use std::alloc::Global;
+use xhstt_references::Named;
 use xhstt_shape::EntryView;
 
 /// For each event the number of its first entry, and for each entry the number of the next one of the

@@ -8,10 +8,11 @@ ghost use Rattle.xhstt_completion.specs.Found.{AreFound};
 use crate::causes::cause_in;
 use crate::entries::duration_of;
 use crate::faults::Cause;
-use crate::lookups::{Found, named_at, resources_at};
+use crate::lookups::{named_at, resources_at};
 use khe_base::{EventId, NoMemory};
 use khe_instance::Instance;
 use std::alloc::Global;
+use xhstt_references::Followed;
 use xhstt_shape::EntryView;
 
 /// The first cause of the first entry that has one, by what the entries name, or `None` where each
@@ -23,11 +24,11 @@ pub(crate) fn first_cause(
     alloc: Global,
     inst: &Instance,
     entries: &[EntryView<'_>],
-    found: &Found,
+    found: &Followed,
 ) -> Result<Option<Cause>, NoMemory>
     requires entries { All (IsEntry inst.now) entries.now }
-    requires many { length found.now.named.items ≡ length entries.now }
-    requires each { AreFound inst.now entries.now found.now.named.items found.now.given.items }
+    requires many { length found.now.named ≡ length entries.now }
+    requires each { AreFound inst.now entries.now found.now.named found.now.given }
     ensures { IfOk result (λ cause. cause ≡ first_cause inst.now [] entries.now) }
 {
     inst.facts();

@@ -15,38 +15,13 @@ ghost use Rattle.xhstt_shape.specs.declared.records.RawSolution.{RawSolution};
 use crate::SolutionFault;
 use crate::checking::first_cause;
 use crate::faults::Cause;
-use crate::lookups::{Found, looked_up};
 use crate::states::state_of;
 use khe_base::Seq;
 use khe_instance::{Instance, Plain};
 use std::alloc::Global;
+use xhstt_references::Followed;
 use xhstt_resolve::Resolved;
 use xhstt_shape::{Archive, EntryView, RawSolution};
-
-/// The state that a solution says, completed as KHE completes a solution that it reads: the entries
-/// of an event are its meets in order, an entry without a duration lasts as long as its event, one
-/// without a time has the preassigned time, and where the entries of an event fall short of its
-/// duration, one more meet has the rest. All monitors are attached, and there are no groups.
-///
-/// `Invalid` where an entry cannot stand: the first such entry, with its first cause. Else
-/// `NoMemory` where memory is refused.
-///
-/// It takes time and memory in proportion to the events, to what the entries give and to the state (of
-/// an invalid solution, to the places of the events of its entries), on average, where roles are of
-/// bounded length: one that is given is compared with those of all places of its event, or a hash of
-/// each is taken.
-pub fn completed(alloc: Global, inst: &Instance, raw: &RawSolution) -> Result<Plain, SolutionFault>
-    requires { IsSolution inst.now raw.now }
-    ensures exact { IfOk result (λ plain. completed inst.now raw.now ≡ Ok plain) }
-    ensures invalid { IfErr result (IsFaultOf (completed inst.now raw.now)) }
-    ensures valid { IfOk result (IsValid inst.now) }
-    ensures plain { IfOk result (λ plain. (plain.detached ≡ []) × (plain.groups ≡ [])) }
-{
-    let list = raw.events.listed(alloc)?;
-    let entries = list.as_slice();
-    let found = looked_up(alloc, inst, entries)?;
-    completed_by(alloc, inst, raw, entries, &found)
-}
 
 /// The state that a solution with these entries says, by what they name.
 fn completed_by(
@@ -54,12 +29,12 @@ fn completed_by(
     inst: &Instance,
     _raw: &RawSolution,
     entries: &[EntryView<'_>],
-    found: &Found,
+    found: &Followed,
 ) -> Result<Plain, SolutionFault>
     requires solution { IsSolution inst.now _raw.now }
     requires entries { entries.now ≡ _raw.now.events }
-    requires many { length found.now.named.items ≡ length entries.now }
-    requires each { AreFound inst.now entries.now found.now.named.items found.now.given.items }
+    requires many { length found.now.named ≡ length entries.now }
+    requires each { AreFound inst.now entries.now found.now.named found.now.given }
     ensures exact { IfOk result (λ plain. completed inst.now _raw.now ≡ Ok plain) }
     ensures invalid { IfErr result (IsFaultOf (completed inst.now _raw.now)) }
     ensures valid { IfOk result (IsValid inst.now) }
@@ -76,8 +51,18 @@ fn completed_by(
 /// solution groups in order. The archive is in form, `resolved` is what `resolve` answers for it, and
 /// the instance is the solution's: then the references of the solution name parts of the instance.
 ///
-/// It does what `completed` does, in the same time and memory, and besides takes time in proportion
-/// to the solution groups.
+/// A solution is completed as KHE completes one that it reads: the entries of an event are its meets in
+/// order, an entry without a duration lasts as long as its event, one without a time has the preassigned
+/// time, and where the entries of an event fall short of its duration, one more meet has the rest. All
+/// monitors are attached, and there are no groups.
+///
+/// `Invalid` where an entry cannot stand: the first such entry, with its first cause. Else
+/// `NoMemory` where memory is refused.
+///
+/// It takes time and memory in proportion to the solution groups, the events, to what the entries give and
+/// to the state (of an invalid solution, to the places of the events of its entries), on average, where
+/// roles are of bounded length: one that is given is compared with those of all places of its event, or a
+/// hash of each is taken. No Id is looked up.
 pub fn solution(
     alloc: Global,
     inst: &Instance,
@@ -102,22 +87,24 @@ pub fn solution(
 /// What `solution` answers, for a solution that is at hand: it is not looked for in its group, so a
 /// worker that goes through many takes no time in proportion to the groups.
 ///
-/// It does what `completed` does, in the same time and memory. Of what was resolved, and of the
-/// number, only the contract reads.
+/// It takes the time and the memory of `solution`, less that time.
 pub fn numbered_solution(
     alloc: Global,
     inst: &Instance,
-    _resolved: &Resolved,
-    _number: u32,
+    resolved: &Resolved,
+    number: u32,
     raw: &RawSolution,
 ) -> Result<Plain, SolutionFault>
-    requires one { IsOne _resolved.now _number raw.now }
-    requires instance { parts_at _resolved.now _number ≡ Some inst.now }
+    requires one { IsOne resolved.now number raw.now }
+    requires instance { parts_at resolved.now number ≡ Some inst.now }
     ensures exact { IfOk result (λ plain. completed inst.now raw.now ≡ Ok plain) }
     ensures invalid { IfErr result (IsFaultOf (completed inst.now raw.now)) }
     ensures valid { IfOk result (IsValid inst.now) }
 {
-    completed(alloc, inst, raw)
+    let list = raw.events.listed(alloc)?;
+    let entries = list.as_slice();
+    let followed = resolved.followed.as_slice();
+    completed_by(alloc, inst, raw, entries, &followed[number as usize])
 }
 
 /// The solution of an archive with this number, if there is one. It takes time in proportion to the

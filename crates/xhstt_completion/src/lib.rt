@@ -15,5 +15,5 @@ mod many;
 mod states;
 mod tables;
 
-pub use completion::{completed, numbered_solution, solution};
+pub use completion::{numbered_solution, solution};
 pub use faults::{Cause, SolutionFault};

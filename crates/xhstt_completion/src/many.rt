@@ -107,7 +107,7 @@ fn roles_wanted(
     requires { Finds roles.now (map role_of given.now) }
     ensures { IfOk result (λ table. Finds table (wanted_roles given.now places.now)) }
 {
-    let mut table = RoleTable::new(alloc);
+    let mut table = RoleTable::new(alloc, given);
     for (number, place) in places.iter().enumerate() {
         table.push(wanted_role(given, roles, place), number)?;
     }

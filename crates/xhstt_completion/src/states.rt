@@ -14,11 +14,12 @@ ghost use Rattle.xhstt_completion.specs.Tables.{Finds};
 
 use crate::chains::{Chains, chained};
 use crate::entries::{duration_of, is_given_for, start_of};
-use crate::lookups::{Found, resources_at};
+use crate::lookups::resources_at;
 use crate::tables::{RoleTable, are_few, roles_given};
 use khe_base::{EventId, MeetId, NoMemory, ResourceId, Seq, TaskId, Text};
 use khe_instance::{EventInfo, Instance, Meet, Place, Plain, Task};
 use std::alloc::Global;
+use xhstt_references::Followed;
 use xhstt_shape::{EntryView, GivenView};
 
 /// The meets and the tasks that are made so far.
@@ -34,11 +35,11 @@ pub(crate) fn state_of(
     alloc: Global,
     inst: &Instance,
     entries: &[EntryView<'_>],
-    found: &Found,
+    found: &Followed,
 ) -> Result<Plain, NoMemory>
     requires entries { All (IsEntry inst.now) entries.now }
-    requires many { length found.now.named.items ≡ length entries.now }
-    requires each { AreFound inst.now entries.now found.now.named.items found.now.given.items }
+    requires many { length found.now.named ≡ length entries.now }
+    requires each { AreFound inst.now entries.now found.now.named found.now.given }
     requires fit { (e : ℕ) (event : EventInfo) → slice_get inst.now.events e ≡ Some event → used_by inst.now e event entries.now ≤ event.duration }
     ensures { IfOk result (λ plain. plain ≡ state_of inst.now entries.now) }
 {
@@ -79,13 +80,13 @@ fn push_event(
     inst: &Instance,
     number: EventId,
     entries: &[EntryView<'_>],
-    found: &Found,
+    found: &Followed,
     chains: &Chains,
 ) -> Result<(), NoMemory>
     requires there { number.0 < length inst.now.events }
     requires entries { All (IsEntry inst.now) entries.now }
-    requires many { length found.now.named.items ≡ length entries.now }
-    requires each { AreFound inst.now entries.now found.now.named.items found.now.given.items }
+    requires many { length found.now.named ≡ length entries.now }
+    requires each { AreFound inst.now entries.now found.now.named found.now.given }
     requires firsts { length chains.now.firsts.items ≡ length inst.now.events }
     requires nexts { length chains.now.nexts.items ≡ length entries.now }
     requires own { IsChain entries.now chains.now.nexts.items 0 (get_or chains.now.firsts.items number.0 0) (entries_of inst.now number.0 entries.now) }
@@ -98,9 +99,10 @@ fn push_event(
     let mut slot = event.first_meet;
     let mut left = event.duration;
     let mut at = chains.firsts[number.0 as usize];
+    let named = found.named.as_slice();
     while at < entries.len() {
         let entry = &entries[at];
-        let named = found.named[at];
+        let named = named[at];
         let meet = Meet {
             meet: MeetId(slot),
             event: number,

@@ -8,8 +8,9 @@ ghost use Rattle.khe_instance.specs.Lookups.{is_role};
 ghost use Rattle.xhstt_completion.specs.Entries.{role_of};
 ghost use Rattle.xhstt_completion.specs.Tables.{Finds};
 
-use khe_base::{Names, NoMemory, Text};
+use khe_base::{NoMemory, Text};
 use std::alloc::Global;
+use xhstt_references::{Names, Seed};
 use xhstt_shape::GivenView;
 
 /// Up to this many resources of an entry, or places of its event, are few: each resource is then looked
@@ -47,12 +48,13 @@ impl Drop for RoleTable {
 }
 
 impl RoleTable {
-    /// The table of no roles. It takes no memory.
-    pub fn new(alloc: Global) -> RoleTable
+    /// The table of no roles, for some of the roles that these resources are given for. It takes time in
+    /// proportion to them, and no memory.
+    pub fn new(alloc: Global, given: &[GivenView<'_>]) -> RoleTable
         ensures { Finds result [] }
     {
         RoleTable {
-            names: Names::new(alloc),
+            names: Names::new(alloc, seed_of(given)),
             firsts: Vec::new(alloc),
             longest: 0,
         }
@@ -103,12 +105,23 @@ impl RoleTable {
     }
 }
 
+/// The number that the hashes of the roles begin with which resources are given for.
+fn seed_of(given: &[GivenView<'_>]) -> u64 {
+    let mut seed = Seed::new();
+    for one in given {
+        if let Some(role) = one.role() {
+            seed.add(role.text);
+        }
+    }
+    seed.number()
+}
+
 /// The roles for which resources are given, each at the place of the resource. It takes time and memory
 /// in proportion to the resources and their roles, on average.
 pub(crate) fn roles_given(alloc: Global, given: &[GivenView<'_>]) -> Result<RoleTable, NoMemory>
     ensures { IfOk result (λ table. Finds table (map role_of given.now)) }
 {
-    let mut table = RoleTable::new(alloc);
+    let mut table = RoleTable::new(alloc, given);
     for (number, one) in given.iter().enumerate() {
         push_given(alloc, &mut table, one, number)?;
     }

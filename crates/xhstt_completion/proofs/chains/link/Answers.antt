@@ -1,7 +1,7 @@
 -- One more entry is linked.
 use Rattle.std.proofs.Common.{◌≡◌, ◌∙◌, ◌+◌, ◌-◌, ◌<◌, None, ap, subst, arith, length, get_or}
 use Rattle.std.proofs.lemmas.List.{length-replicate, length-set}
-use Rattle.xhstt_completion.specs.declared.lookups.Named.{Named}
+use Rattle.xhstt_references.specs.declared.following.Named.{Named}
 use Rattle.xhstt_completion.proofs.ChainLemmas.{AreChains, chains-none, chains-more}
 use Rattle.xhstt_completion.proofs.FoundLemmas.{linked}
 use Rattle.xhstt_completion.proofs.chains.link.Goals as goal

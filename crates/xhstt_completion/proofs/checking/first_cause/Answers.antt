@@ -106,7 +106,7 @@ resources_at-resources-requires c =
     let is = c.named_at-named.ensures.found entry
     (slice_get_read c.args.entries.now _ c.loop-number.number entry refl c.loop-number-test.true
     c.index-entries-number.is) in
-    omega (arith, is.within, ap length c.as_slice.ensures.value)
+    omega (arith, is.within, ap length c.as_slice.ensures)
 
 pub cause_in-requires-clause-event : goal.cause_in-requires-clause-event
 cause_in-requires-clause-event c =
@@ -129,7 +129,7 @@ cause_in-requires-clause-resources c =
     (slice_get_read c.args.entries.now _ c.loop-number.number entry refl c.loop-number-test.true
     c.index-entries-number.is) in
     is.resources ∙ ap (map (λ x. Some x)) (sym (c.resources_at-resources.ensures
-    ∙ ap (λ xs. take (length entry.resources) (drop c.named_at-named.result.first xs)) c.as_slice.ensures.value))
+    ∙ ap (λ xs. take (length entry.resources) (drop c.named_at-named.result.first xs)) c.as_slice.ensures))
 
 pub loop-number-preserved : goal.loop-number-preserved
 loop-number-preserved c =

@@ -1,6 +1,6 @@
 -- One part more.
 use Rattle.std.proofs.Common.{◌≡◌, ◌∙◌, ◌+◌, ◌-◌, ◌<◌, ◌≤◌, ◌++◌, ◌∷◌, [], Some, sym, ap, subst, arith, map, length}
-use Rattle.std.proofs.Common.{get_or, take, drop}
+use Rattle.std.proofs.Common.{get_or, take, drop, None}
 use Rattle.std.specs.List.{enumerate_from}
 use Rattle.std.specs.Option.{option_or}
 use Rattle.std.proofs.lemmas.List.{get_or_default}
@@ -11,10 +11,14 @@ use Rattle.xhstt_completion.specs.Completed.{part_of, meet_of, task_of, meets_at
 use Rattle.xhstt_completion.specs.Entries.{IsEntry, duration_of, start_of, entries_of}
 use Rattle.xhstt_completion.proofs.CausesLemmas.{unwrap_or-positive}
 use Rattle.xhstt_completion.proofs.EventLemmas.{IsLeft, here, left-more, left-all, next-fits, all-meets, all-tasks}
-use Rattle.xhstt_completion.proofs.FoundLemmas.{found-there}
+use Rattle.xhstt_completion.proofs.FoundLemmas.{found-read}
 use Rattle.xhstt_completion.proofs.WellMadeLemmas.{event-made, places-few, slots-few}
 use Rattle.xhstt_completion.proofs.states.push_event.Goals as goal
+use Rattle.xhstt_references.specs.declared.following.Named.{Named}
 use Rattle.xhstt_shape.specs.declared.records.RawEntry.{RawEntry}
+
+abbrev none : Named
+none = record { event = record { 0 = 0 }; time = None; first = 0 }
 
 pub push_entry-requires-clause-few : goal.push_entry-requires-clause-few
 push_entry-requires-clause-few c = places-few c.args.inst.now c.args.number.0 c.event-event.result.now c.facts.ensures
@@ -47,22 +51,22 @@ loop-at-init c =
 
 pub resources_at-given-requires : goal.resources_at-given-requires
 resources_at-given-requires c =
-    let is = found-there c.args.inst.now c.args.entries.now c.args.found.now.named.items c.args.found.now.given.items
-    c.loop-at.at c.index-entries-at.result c.index-named.result.now c.requires.each c.requires.many c.loop-at-test.true
-    c.index-entries-at.is c.index-named.ensures in
-    omega (arith, is.within, ap length c.as_slice.ensures.value)
+    let is = found-read c.args.inst.now c.args.entries.now c.args.found.now.named c.as_slice-named.result.now
+    c.args.found.now.given c.loop-at.at c.index-entries-at.result none c.requires.each c.requires.many
+    c.as_slice-named.ensures c.loop-at-test.true c.index-entries-at.is in
+    omega (arith, is.within, ap length c.as_slice.ensures)
 
 pub push_entry-requires-clause-resources : goal.push_entry-requires-clause-resources
 push_entry-requires-clause-resources c =
     let p = c.args.inst.now in
     let entry = c.index-entries-at.result in
-    let n = c.index-named.result.now in
-    let is = found-there p c.args.entries.now c.args.found.now.named.items c.args.found.now.given.items c.loop-at.at
-    entry
-    n c.requires.each c.requires.many c.loop-at-test.true c.index-entries-at.is c.index-named.ensures in
+    let n = get_or c.as_slice-named.result.now c.loop-at.at none in
+    let is = found-read p c.args.entries.now c.args.found.now.named c.as_slice-named.result.now
+    c.args.found.now.given c.loop-at.at entry none c.requires.each c.requires.many c.as_slice-named.ensures
+    c.loop-at-test.true c.index-entries-at.is in
     is.resources
     ∙ ap (map (λ x. Some x)) (sym (c.resources_at-given.ensures
-    ∙ ap (λ xs. take (length entry.resources) (drop n.first xs)) c.as_slice.ensures.value))
+    ∙ ap (λ xs. take (length entry.resources) (drop n.first xs)) c.as_slice.ensures))
 
 pub overflow_sub-left : goal.overflow_sub-left
 overflow_sub-left c =
@@ -90,9 +94,8 @@ loop-at-preserved c =
     let entry = c.index-entries-at.result in
     let d = c.duration_of.result in
     let inv = c.loop-at.invariant in
-    let found = found-there p entries c.args.found.now.named.items c.args.found.now.given.items at entry
-    c.index-named.result.now c.requires.each c.requires.many c.loop-at-test.true c.index-entries-at.is
-    c.index-named.ensures in
+    let found = found-read p entries c.args.found.now.named c.as_slice-named.result.now c.args.found.now.given at
+    entry none c.requires.each c.requires.many c.as_slice-named.ensures c.loop-at-test.true c.index-entries-at.is in
     let is = here entries nexts at inv.rest entry inv.chain c.loop-at-test.true c.index-entries-at.is in
     let lasts : duration_of event is.next.entry ≡ d = ap (duration_of event) is.same ∙ sym c.duration_of.ensures in
     let starts : start_of p event is.next.entry ≡ c.start_of.result =

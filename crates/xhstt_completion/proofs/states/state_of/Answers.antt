@@ -7,11 +7,11 @@ use Rattle.xhstt_completion.proofs.states.state_of.Goals as goal
 use Rattle.khe_base.proofs.ListLemmas.{drop-next}
 
 pub chained-requires-clause-many : goal.chained-requires-clause-many
-chained-requires-clause-many c = ap length c.as_slice.ensures.value ∙ c.requires.many
+chained-requires-clause-many c = ap length c.as_slice.ensures ∙ c.requires.many
 
 pub chained-requires-clause-events : goal.chained-requires-clause-events
 chained-requires-clause-events c = λ i entry n at_entry at_n.
-    (c.requires.each i entry n at_entry (ap (λ ns. slice_get ns i) (sym c.as_slice.ensures.value) ∙ at_n)).event
+    (c.requires.each i entry n at_entry (ap (λ ns. slice_get ns i) (sym c.as_slice.ensures) ∙ at_n)).event
 
 pub push_event-requires-clause-own : goal.push_event-requires-clause-own
 push_event-requires-clause-own c =
