@@ -1,6 +1,6 @@
 -- The list of a set's members: it ascends, and what is in it is a member.
 use Rattle.std.proofs.Common.{◌≡◌, ◌∙◌, sym, ap, subst, refl, ℕ, ◌+◌, ◌<◌, ◌≤◌, ◌==◌, ◌||◌, Bool, true, false, cond, zero}
-use Rattle.std.proofs.Common.{suc, List, [], ◌∷◌, length, get_or, filter, arith, ◌⊎◌, inl, inr, Result, Ok, Err}
+use Rattle.std.proofs.Common.{suc, List, [], ◌∷◌, length, get_or, take, filter, arith, ◌⊎◌, inl, inr, Result, Ok, Err}
 use Rattle.std.specs.List.{range_with_len}
 use Rattle.std.specs.List.Sorted.{IsBinarySearchResult}
 use Rattle.std.specs.Ordering.{nat_cmp}
@@ -38,7 +38,7 @@ module _ (f : ℕ → Bool) where
       by false r = r
 
   -- and one of the range is among them where it passes
-  within : (from n k : ℕ) → from ≤ k → k < from + n → is_listed (passing from n) k ≡ f k
+  pub within : (from n k : ℕ) → from ≤ k → k < from + n → is_listed (passing from n) k ≡ f k
   within from zero k a b = absurd (omega (arith, a, b))
   within from (suc n) k a b = by (λ l. within (from + 1) n k l (omega (arith, b))) (cases_eq from k) (f from) refl
     where
@@ -64,6 +64,41 @@ module _ (f : ℕ → Bool) where
       by true zero l r = omega arith
       by true (suc i) l r = let m = r i (omega (arith, l)) in omega (arith, m)
       by false i l r = let m = r i l in omega (arith, m)
+
+  -- all of them are of the range
+  pub before_end : (from n i : ℕ) → i < length (passing from n) → get_or (passing from n) i 0 < from + n
+  before_end from zero i l = absurd (omega (arith, l))
+  before_end from (suc n) i l = by (f from) i l (λ j m. before_end (from + 1) n j m)
+    where
+      rest : List ℕ
+      rest = passing (from + 1) n
+
+      by : (b : Bool) (i : ℕ) → i < length (cond b (from ∷ rest) rest)
+          → ((j : ℕ) → j < length rest → get_or rest j 0 < from + 1 + n)
+          → get_or (cond b (from ∷ rest) rest) i 0 < from + suc n
+      by true zero l r = omega arith
+      by true (suc i) l r = let m = r i (omega (arith, l)) in omega (arith, m)
+      by false i l r = let m = r i l in omega (arith, m)
+
+  -- and none of them comes twice
+  pub comes_once : (from n i : ℕ) → i < length (passing from n)
+      → is_listed (take i (passing from n)) (get_or (passing from n) i 0) ≡ false
+  comes_once from zero i l = absurd (omega (arith, l))
+  comes_once from (suc n) i l = by (f from) i l (λ j m. comes_once (from + 1) n j m) (not_before (from + 1) n)
+    where
+      rest : List ℕ
+      rest = passing (from + 1) n
+
+      by : (b : Bool) (i : ℕ) → i < length (cond b (from ∷ rest) rest)
+          → ((j : ℕ) → j < length rest → is_listed (take j rest) (get_or rest j 0) ≡ false)
+          → ((j : ℕ) → j < length rest → from + 1 ≤ get_or rest j 0)
+          → is_listed (take i (cond b (from ∷ rest) rest)) (get_or (cond b (from ∷ rest) rest) i 0) ≡ false
+      by true zero l r s = refl
+      by true (suc i) l r s =
+          let m = s i (omega (arith, l)) in
+          ap (λ c. c || is_listed (take i rest) (get_or rest i 0))
+          (ne_eqb from (get_or rest i 0) (λ e. omega (arith, e, m))) ∙ r i (omega (arith, l))
+      by false i l r s = r i l
 
   -- they ascend
   ascend : (from n i j : ℕ) → i ≤ j → j < length (passing from n)

@@ -1,3 +1,4 @@
+pub mod ByTimeLemmas
 pub mod CostsLaws
 pub mod DeviationBounds
 pub mod DutiesLemmas

@@ -69,12 +69,12 @@ module _ (number : ℕ) where
 
 -- one number more in a table
 pub one_tabled : (test : ℕ → ℕ → ℕ → Bool) (rows : ℕ) (width : ℕ → ℕ) (n : ℕ) (here : ℕ → ℕ → Bool)
-    (old new : List (List (List ℕ))) → ((a b : ℕ) → here a b ≡ test a b n) → AreTabled test rows width n old
+    (old new : List (List (List ℕ))) → ((a b : ℕ) → a < rows → b < width a → here a b ≡ test a b n) → AreTabled test rows width n old
     → IsAddedAt here n old new → AreTabled test rows width (n + 1) new
 one_tabled test rows width n here old new same are is = record {
   rows_are = is.rows ∙ are.rows_are;
   widths = λ a l. is.widths a (subst (λ m. a < m) (sym are.rows_are) l) ∙ are.widths a l;
   each = λ a b l m. is.each a b (subst (λ k. a < k) (sym are.rows_are) l)
-      (subst (λ k. b < k) (sym (are.widths a l)) m) ∙ (λ j. are.each a b l m j ++ cond (same a b j) (n ∷ []) [])
+      (subst (λ k. b < k) (sym (are.widths a l)) m) ∙ (λ j. are.each a b l m j ++ cond (same a b l m j) (n ∷ []) [])
       ∙ sym (passing_more (test a b) n);
 }

@@ -1,4 +1,5 @@
 pub mod ByPlace
+pub mod ByTime
 pub mod ByType
 pub mod Costs
 pub mod Deviation

@@ -3,6 +3,7 @@
 #![tactic(auto)]
 
 mod by_place;
+mod by_time;
 mod by_type;
 mod examples;
 mod instances;
@@ -16,6 +17,7 @@ mod slots;
 mod states;
 
 pub use by_place::monitors_by_place;
+pub use by_time::monitors_by_time;
 pub use instances::Instance;
 pub use monitor_tables::MonitorTable;
 pub use parts::{EventInfo, GroupInfo, Parts, Place, ResourceInfo};

@@ -22,5 +22,5 @@ loop-number-preserved c =
     let m = c.monitor-point.result in
     one_tabled (is_at_place p.monitors) (length p.events) (places_at p.events) c.loop-number.number (is_place m.point)
     c.loop-number.table _
-    (λ a b. ap (λ o. option_map_or (λ (x : Monitor). is_place x.point a b) o false) (sym c.monitor-point.ensures))
+    (λ a b l h. ap (λ o. option_map_or (λ (x : Monitor). is_place x.point a b) o false) (sym c.monitor-point.ensures))
     c.loop-number.invariant c.in_ok-add_at_place.ensures
