@@ -1,11 +1,11 @@
 -- The meets that an event is cut into keep all bounds of its Split Events constraints, where any durations do.
-use Rattle.std.proofs.Common.{ℕ, zero, suc, ◌≡◌, ◌+◌, ◌-◌, ◌<◌, ◌≤◌, Bool, true, false, ◌||◌, cond, Option, Some, None, IfSome}
+use Rattle.std.proofs.Common.{ℕ, zero, suc, ◌≡◌, ◌↔◌, ◌+◌, ◌-◌, ◌<◌, ◌≤◌, Bool, true, false, ◌||◌, cond, Option, Some, None, IfSome}
 use Rattle.std.proofs.Common.{List, [], ◌∷◌, ◌++◌, length, map, set, slice_get, refl, sym, ap, subst, ◌∙◌, arith, inl, inr}
 use Rattle.std.specs.Prelude.{All, sum, is_some, nat_lt, nat_eq}
 use Rattle.std.specs.List.{cons_option, count_by, filter, filter_map, fold, range_with_len, sum_by}
 use Rattle.std.specs.Option.{option_and_then, option_map, option_map_or}
 use Rattle.std.proofs.Math.Seq.{map-set_same}
-use Rattle.std.proofs.lemmas.Bool.{both_ways, cases_eq, eq-eqb, eqb-true, le-ltb, lt-ltb, ne_eqb, or_from}
+use Rattle.std.proofs.lemmas.Bool.{both_ways, cases_eq, cases_lt, eq-eqb, eqb-true, le-ltb, lt-ltb, ne_eqb, or_from}
 use Rattle.std.proofs.lemmas.List.{length-map, map-append}
 use Rattle.std.proofs.lemmas.List.Elements.{All-nil, All-cons, All-head, All-tail}
 use Rattle.std.proofs.lemmas.List.Sums.{sum_by-cons}
@@ -408,32 +408,86 @@ rule_is (LimitBusyTimes g x y) b h = absurd (none-some b h)
 rule_is (LimitWorkload x y) b h = absurd (none-some b h)
 
 point_deviation : (p : Parts) (ms : List Meet) (ds : List Duty) (e : ℕ) (point : Point) (b : Bounds)
-    → is_event e point ≡ true → split_events ms e b.min_duration b.max_duration b.min_amount b.max_amount ≡ 0
-    → deviation_at p ms ds (SplitEvents b.min_duration b.max_duration b.min_amount b.max_amount) point ≡ 0
-point_deviation p ms ds e (Event x) b h zero_is =
-    ap (λ j. split_events ms j b.min_duration b.max_duration b.min_amount b.max_amount) (eqb-true x.0 e h) ∙ zero_is
-point_deviation p ms ds e (EventResource x k) b h zero_is = absurd (both_ways false refl h)
-point_deviation p ms ds e (EventGroup x) b h zero_is = absurd (both_ways false refl h)
-point_deviation p ms ds e (EventPair x) b h zero_is = absurd (both_ways false refl h)
-point_deviation p ms ds e (Resource x) b h zero_is = absurd (both_ways false refl h)
+    → is_event e point ≡ true
+    → deviation_at p ms ds (SplitEvents b.min_duration b.max_duration b.min_amount b.max_amount) point
+    ≡ split_events ms e b.min_duration b.max_duration b.min_amount b.max_amount
+point_deviation p ms ds e (Event x) b h =
+    ap (λ j. split_events ms j b.min_duration b.max_duration b.min_amount b.max_amount) (eqb-true x.0 e h)
+point_deviation p ms ds e (EventResource x k) b h = absurd (both_ways false refl h)
+point_deviation p ms ds e (EventGroup x) b h = absurd (both_ways false refl h)
+point_deviation p ms ds e (EventPair x) b h = absurd (both_ways false refl h)
+point_deviation p ms ds e (Resource x) b h = absurd (both_ways false refl h)
 
 rule_deviation : (p : Parts) (ms : List Meet) (ds : List Duty) (e : ℕ) (point : Point) (b : Bounds)
     (t : Bool) (o : Option Constraint) → is_event e point ≡ t
     → cond t (option_and_then (λ (c : Constraint). bounds_in c.rule) o) None ≡ Some b
-    → split_events ms e b.min_duration b.max_duration b.min_amount b.max_amount ≡ 0
-    → option_map_or (λ (c : Constraint). deviation_at p ms ds c.rule point) o 0 ≡ 0
-rule_deviation p ms ds e point b false o h is zero_is = absurd (none-some b is)
-rule_deviation p ms ds e point b true None h is zero_is = refl
-rule_deviation p ms ds e point b true (Some c) h is zero_is =
-    ap (λ r. deviation_at p ms ds r point) (rule_is c.rule b is) ∙ point_deviation p ms ds e point b h zero_is
+    → option_map_or (λ (c : Constraint). deviation_at p ms ds c.rule point) o 0
+    ≡ split_events ms e b.min_duration b.max_duration b.min_amount b.max_amount
+rule_deviation p ms ds e point b false o h is = absurd (none-some b is)
+rule_deviation p ms ds e point b true None h is = absurd (none-some b is)
+rule_deviation p ms ds e point b true (Some c) h is =
+    ap (λ r. deviation_at p ms ds r point) (rule_is c.rule b is) ∙ point_deviation p ms ds e point b h
 
 set_deviation : (p : Parts) (s : List Slot) (e : ℕ) (m : Monitor) (b : Bounds) → set_by p e m ≡ Some b
-    → split_events (meets_in s) e b.min_duration b.max_duration b.min_amount b.max_amount ≡ 0
-    → deviation_in p s m ≡ 0
+    → deviation_in p s m ≡ split_events (meets_in s) e b.min_duration b.max_duration b.min_amount b.max_amount
 unfolding set_by
-set_deviation p s e m b is zero_is =
+set_deviation p s e m b is =
     rule_deviation p (meets_in s) (duties_in s) e m.point b (is_event e m.point)
-    (slice_get p.constraints m.constraint) refl is zero_is
+    (slice_get p.constraints m.constraint) refl is
+
+-- and meets without a deviation keep the bounds
+neither : (a b : Bool) → (a || b) ≡ false → (a ≡ false) × (b ≡ false)
+neither true b e = absurd (both_ways true e refl)
+neither false b e = (refl, e)
+
+not_below : (a b : ℕ) → nat_lt a b ≡ false → b ≤ a
+not_below a b h = elim (cases_lt a b) [ inl l ↦ absurd (both_ways (nat_lt a b) h (lt-ltb a b l)) | inr l ↦ l ]
+
+fitting : (b : Bounds) (d : ℕ) (t : Bool) → is_unfit b.min_duration b.max_duration d ≡ t → cond {A = ℕ} t 1 0 ≡ 0
+    → (b.min_duration ≤ d) × (d ≤ b.max_duration)
+fitting b d true e z = absurd (omega (arith, z))
+fitting b d false e z =
+    let apart = neither (nat_lt d b.min_duration) (nat_lt b.max_duration d) e in
+    (not_below d b.min_duration apart.0, not_below b.max_duration d apart.1)
+
+all_fit : (b : Bounds) (ms : List Meet)
+    → count_by (λ (m : Meet). is_unfit b.min_duration b.max_duration m.duration) ms ≡ 0
+    → All (λ d. (b.min_duration ≤ d) × (d ≤ b.max_duration)) (map (λ (m : Meet). m.duration) ms)
+all_fit b [] h = All-nil (λ d. (b.min_duration ≤ d) × (d ≤ b.max_duration))
+all_fit b (m ∷ ms) h =
+    let c = sum_by-cons (λ (x : Meet). cond (is_unfit b.min_duration b.max_duration x.duration) 1 0) m ms in
+    All-cons (λ d. (b.min_duration ≤ d) × (d ≤ b.max_duration)) m.duration (map (λ (x : Meet). x.duration) ms)
+    (fitting b m.duration (is_unfit b.min_duration b.max_duration m.duration) refl (omega (arith, c, h)))
+    (all_fit b ms (omega (arith, c, h)))
+
+within : (n least most : ℕ) → count_outside n least most ≡ 0 → (least ≤ n) × (n ≤ most)
+within n least most h = by (nat_lt n least) refl (sym (count_outside_is n least most) ∙ h)
+  where
+    by : (t : Bool) → nat_lt n least ≡ t → cond t (least - n) (n - most) ≡ 0 → (least ≤ n) × (n ≤ most)
+    by true e z = absurd (both_ways (nat_lt n least) (le-ltb n least (omega (arith, z))) e)
+    by false e z = (not_below n least e, omega (arith, z))
+
+split_kept : (e : ℕ) (ms : List Meet) (b : Bounds)
+    → split_events ms e b.min_duration b.max_duration b.min_amount b.max_amount ≡ 0
+    → Keeps b (map (λ (m : Meet). m.duration) (meets_of e ms))
+split_kept e ms b h =
+    let own_meets = meets_of e ms in
+    let many = length-map own_meets (λ (m : Meet). m.duration) in
+    let n = ones own_meets in
+    let out = within (sum_by (λ (m : Meet). 1) own_meets) b.min_amount b.max_amount (omega (arith, h)) in
+    record {
+      least = let a = out.0 in omega (arith, a, many, n);
+      most = let a = out.1 in omega (arith, a, many, n);
+      each = all_fit b own_meets (omega (arith, h));
+    }
+
+-- so no deviation and kept bounds are one
+pub split_is_kept : (p : Parts) (s : List Slot) (e : ℕ) (m : Monitor) (b : Bounds) → set_by p e m ≡ Some b
+    → (deviation_in p s m ≡ 0) ↔ Keeps b (map (λ (x : Meet). x.duration) (meets_of e (meets_in s)))
+split_is_kept p s e m b is = (
+  λ zero_is. split_kept e (meets_in s) b (sym (set_deviation p s e m b is) ∙ zero_is),
+  λ keeps. set_deviation p s e m b is ∙ kept_split e (meets_in s) b keeps,
+)
 
 pub cut_well : (p : Parts) (s : State) (e i : ℕ) (event : EventInfo) (ds : List ℕ) (m : Monitor) (b : Bounds)
     → AreWellMade p → IsStateOf p (begun p) s → slice_get p.events e ≡ Some event → event.fixed ≡ None
@@ -445,5 +499,5 @@ cut_well p s e i event ds m b made begins at free whole some each there is =
     let keeps = keeps_set p e (parts event.duration (amount_of p e event)) p.monitors i m b
     (parts_keep p e event ds long free whole some each) there is in
     set_deviation p (constructed p s).slots e m b is
-    (kept_split e (meets_in (constructed p s).slots) b
+    ∙ (kept_split e (meets_in (constructed p s).slots) b
     (subst (Keeps b) (sym (last_durations p s e event made begins at)) keeps))

@@ -2,7 +2,7 @@
 //! the function does nothing.
 #![allow(dead_code)]
 
-ghost use Rattle.std.specs.Prelude.{ℕ, ◌≡◌, ◌≤◌, ◌++◌, ◌∷◌, Some, None, List, All, IfSome, map, slice_get, sum};
+ghost use Rattle.std.specs.Prelude.{ℕ, ◌≡◌, ◌↔◌, ◌≤◌, ◌++◌, ◌∷◌, Some, None, List, All, IfSome, map, slice_get, sum};
 ghost use Rattle.construct.specs.Begun.{begun};
 ghost use Rattle.construct.specs.Choices.{assigns, gives, lowered, lowering};
 ghost use Rattle.construct.specs.Constructed.{constructed, staffed, timed};
@@ -20,6 +20,7 @@ ghost use Rattle.khe_instance.specs.declared.points.Monitor.{Monitor};
 ghost use Rattle.khe_told.specs.Agreement.{deviation_in};
 ghost use Rattle.khe_told.specs.Lists.{meets_in};
 ghost use Rattle.khe_told.specs.declared.edits.Edit.{Edit};
+ghost use Rattle.khe_told.specs.declared.slots.Slot.{Slot};
 
 // Of some edits the one that is taken is accepted, lowers the totals, and is the first of the edits that leave the
 // least; where none is taken, none that is accepted lowers the totals, and the state stays.
@@ -41,4 +42,10 @@ fn each_has_its_turn()
 fn an_event_is_cut_as_well_as_it_can_be()
     ensures parts { (p : Parts) (s : State) (e : ℕ) (event : EventInfo) → AreWellMade p → IsStateOf p (begun p) s → slice_get p.events e ≡ Some event → map (λ m. m.duration) (meets_of e (meets_in (constructed p s).slots)) ≡ parts event.duration (amount_of p e event) }
     ensures none { (p : Parts) (s : State) (e i : ℕ) (event : EventInfo) (ds : List ℕ) (m : Monitor) (b : Bounds) → AreWellMade p → IsStateOf p (begun p) s → slice_get p.events e ≡ Some event → event.fixed ≡ None → sum ds ≡ event.duration → All (λ d. 1 ≤ d) ds → All (λ x. IfSome (set_by p e x) (λ y. Keeps y ds)) p.monitors → slice_get p.monitors i ≡ Some m → set_by p e m ≡ Some b → deviation_in p (constructed p s).slots m ≡ 0 }
+{}
+
+// A Split Events monitor of an event does not deviate, in any state, exactly where the meets of the event keep its
+// bounds.
+fn no_deviation_is_kept_bounds()
+    ensures { (p : Parts) (s : List Slot) (e : ℕ) (m : Monitor) (b : Bounds) → set_by p e m ≡ Some b → ((deviation_in p s m ≡ 0) ↔ Keeps b (map (λ x. x.duration) (meets_of e (meets_in s)))) }
 {}

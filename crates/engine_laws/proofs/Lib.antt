@@ -1,4 +1,5 @@
 pub mod BudgetLaws
+pub mod OwedLaws
 pub mod ServedLaws
 pub mod SmallLaws
 pub mod StandingLaws

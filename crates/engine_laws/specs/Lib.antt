@@ -1,4 +1,5 @@
 pub mod Budgets
+pub mod Owed
 pub mod Served
 pub mod Small
 pub mod Standing

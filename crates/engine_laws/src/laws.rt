@@ -2,6 +2,7 @@
 #![allow(dead_code)]
 
 ghost use Rattle.engine_laws.specs.Budgets.{LargeBudgetsTell};
+ghost use Rattle.engine_laws.specs.Owed.{OwedAsPut};
 ghost use Rattle.engine_laws.specs.Served.{WatchersAreServed};
 ghost use Rattle.engine_laws.specs.Small.{StatesCostLittle, TimetablesCostLittle};
 ghost use Rattle.engine_laws.specs.Standing.{EditsKeepStanding, MarksKeepStanding, OpenedStatesStand, UndoingKeepsStanding};
@@ -41,4 +42,10 @@ fn each_watcher_is_served()
     ensures watchers { WatchersAreServed }
     ensures served { ServesAll ⟦<Families as Family>⟧.serves_kind }
     ensures once { ⟦<Families as Family>⟧.IsWellJoined }
+{}
+
+// An engine that is put off owes the watchers of the changes that it has not measured yet: one that takes the last of
+// these back lowers that by the watchers of the last one.
+fn what_is_taken_back_is_owed_no_more()
+    ensures { OwedAsPut }
 {}

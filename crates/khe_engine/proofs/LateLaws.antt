@@ -3,8 +3,10 @@ use Rattle.std.proofs.Common.{ℕ, ◌≡◌, ◌≤◌, inl, inr, List, [], ◌
 use Rattle.khe_instance.specs.declared.parts.Parts.{Parts}
 use Rattle.khe_solution.specs.Timetables.{HasRoom}
 use Rattle.khe_told.proofs.SlotLaws.{after_back, after_both, all_fit_both, told_after}
+use Rattle.khe_told.proofs.WatcherLaws.{watchers_both}
 use Rattle.khe_told.specs.Changes.{after, after_all}
 use Rattle.khe_told.specs.Fits.{AllFit, Fits}
+use Rattle.khe_told.specs.Watchers.{watcher_counts}
 use Rattle.khe_told.specs.declared.changes.Change.{Change}
 use Rattle.khe_told.specs.declared.slots.Slot.{Slot}
 use Rattle.khe_engine.specs.Late.{IsPut, LeadAlike}
@@ -23,6 +25,7 @@ pub put_alike : (cs ds : List Change) (c : Change) → IsPut cs c ds → LeadAli
 put_alike cs ds c (inl e) p s b f = (
   record { told = b.told; fit = subst (AllFit p s) (sym e) (all_fit_both p s cs (c ∷ []) b.fit f) },
   ap (after_all s) e ∙ after_both s cs (c ∷ []),
+  let n = ap (watcher_counts p s) e in let w = watchers_both p s cs (c ∷ []) in omega (arith, n, w),
 )
 put_alike cs ds c (inr (d, e, i)) p s b f =
     let whole = subst (AllFit p s) e b.fit in
@@ -33,11 +36,12 @@ put_alike cs ds c (inr (d, e, i)) p s b f =
     let back = after_back p x d (told_after p s ds b.told front) last in (
       record { told = b.told; fit = front },
       sym ((λ j. after (there j) (i j)) ∙ back),
+      let n = ap (watcher_counts p s) e in let w = watchers_both p s ds (d ∷ []) in omega (arith, n, w),
     )
 
 -- nothing was put to a list
 pub none_alike : (cs : List Change) → LeadAlike cs [] cs
-none_alike cs p s b f = (b, refl)
+none_alike cs p s b f = (b, refl, omega arith)
 
 -- one change, and then others
 pub then_alike : (cs ds more es : List Change) (c : Change) → LeadAlike cs (c ∷ []) ds → LeadAlike ds more es
@@ -45,7 +49,10 @@ pub then_alike : (cs ds more es : List Change) (c : Change) → LeadAlike cs (c 
 then_alike cs ds more es c first next p s b f =
     let a = first p s b (f.0, tt) in
     let n = next p s a.0 (subst (λ x. AllFit p x more) (sym a.1) f.1) in
-    (n.0, n.1 ∙ ap (λ x. after_all x more) a.1)
+    let fewer = a.2 in
+    let few = n.2 in
+    let there = ap (λ x. watcher_counts p x more) a.1 in
+    (n.0, n.1 ∙ ap (λ x. after_all x more) a.1, omega (arith, fewer, few, there))
 
 -- more room is room
 pub roomier : (p : Parts) (m n : ℕ) → HasRoom p m → m ≤ n → HasRoom p n

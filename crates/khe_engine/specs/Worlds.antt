@@ -27,6 +27,12 @@ pub record World : Type 0 where
   -- the costs that the costs are compared with
   pub marked : List ℕ
 
+-- what an engine that is put off stands for: its world, and how many steps it owes at most for changes that it has
+-- not measured yet
+pub record Owing : Type 0 where
+  pub world : World
+  pub owed : ℕ
+
 -- a mark that was just opened
 abbrev pub fresh : State → Saved
 fresh s = record { state = s; trail = []; records = 0 }

@@ -1,7 +1,7 @@
 //! An engine that is behind: its timetable, marks and ways back stand, and what they cost is known again once it has
 //! caught up.
 
-ghost use Rattle.std.specs.Prelude.{◌≡◌};
+ghost use Rattle.std.specs.Prelude.{◌≡◌, ◌≤◌, ◌+◌};
 
 use crate::edited::Edited;
 use crate::editing::edit_any;
@@ -19,12 +19,13 @@ use undo_paths::Journal;
 /// An engine that is not asked for a while what the timetable costs. It is edited, and has marks, as an engine has
 /// (`Edited`), and answers as that does; but its families follow, and its monitors are measured, only once it has
 /// caught up: each slot and each monitor once, whatever the number of edits that it was in, and for what was undone
-/// before not at all. Contracts see the world of an engine.
+/// before not at all. Contracts see the world of an engine, and how many steps it owes at most: the watchers of the
+/// changes that it was told and has not measured, which a change that is taken back lowers.
 ///
 /// An edit takes the time of its check and of its changes. A thousand changes are kept; the edit that finds no room
 /// for its own takes the time of all of them. Where an event has more than 64 places each edit is followed at once:
-/// many changes are compared at all places of their meets, one edit's changes at the places that it names. A ledger
-/// counts the steps of engines that measure at once; what is measured later is counted in none.
+/// many changes are compared at all places of their meets, one edit's changes at the places that it names. Steps are
+/// counted for the call that takes them.
 pub struct Behind<'i, F: Family> {
     pub(crate) inst: &'i Instance,
     pub(crate) solution: Solution<'i>,
@@ -52,17 +53,21 @@ impl<'i, F: Family> Model for Behind<'i, F> {
     ghost use Rattle.khe_engine.specs.Settled.{IsIdle};
     ghost use Rattle.khe_engine.specs.States.{state_of};
     ghost use Rattle.khe_engine.specs.Values.{HasValues, ServesAll};
-    ghost use Rattle.khe_engine.specs.Worlds.{World};
+    ghost use Rattle.khe_told.specs.Watchers.{watcher_counts};
+    ghost use Rattle.khe_engine.specs.Worlds.{Owing};
     ghost use Rattle.khe_engine.specs.Records.{MarksLead, saved_of};
 
-    ghost Value = { World };
+    ghost Value = { Owing };
 
     ghost view = { λ e. record {
-      parts = e.inst.now;
-      state = state_of e.solution.slots e.late.listeners.graph;
-      saved = saved_of (state_of e.solution.slots e.late.listeners.graph) e.journal.since;
-      spare = e.journal.spare;
-      marked = e.late.listeners.graph.marked;
+      world = record {
+        parts = e.inst.now;
+        state = state_of e.solution.slots e.late.listeners.graph;
+        saved = saved_of (state_of e.solution.slots e.late.listeners.graph) e.journal.since;
+        spare = e.journal.spare;
+        marked = e.late.listeners.graph.marked;
+      };
+      owed = watcher_counts e.inst.now (F.told e.late.listeners.families) e.late.changes.items;
     } };
 
     ghost invariant = { λ e. (e.solution.parts ≡ e.inst.now)
@@ -78,9 +83,10 @@ impl<'i, F: Family> Model for Behind<'i, F> {
 
 impl<'i, F: Family> Behind<'i, F> {
     /// The engine, with the costs of the timetable as it stands. It takes the time of what the edits changed since it
-    /// was put off, and no memory.
-    pub fn caught_up(self) -> Engine<'i, F>
-        ensures { result ≡ self.entry }
+    /// was put off, at most as many steps as it owes, and no memory.
+    pub fn caught_up<L: Ledger>(self, steps: &mut Steps<L>) -> Engine<'i, F>
+        ensures same { result ≡ self.entry.world }
+        ensures steps { steps.new ≤ steps.old + self.entry.owed }
     {
         let Behind {
             inst,
@@ -88,7 +94,7 @@ impl<'i, F: Family> Behind<'i, F> {
             mut late,
             journal,
         } = self;
-        late.catch_up(inst);
+        late.catch_up(inst, steps);
         let Late {
             listeners,
             changes,
@@ -106,7 +112,9 @@ impl<'i, F: Family> Behind<'i, F> {
 }
 
 impl<'i, F: Family> Edited for Behind<'i, F> {
-    ghost world = { λ e. e };
+    ghost world = { λ e. e.world };
+
+    ghost owed = { λ e. e.owed };
 
     #[tactic(auto, using(crate::proofs::RecordLaws::kept_records, crate::proofs::RecordLaws::no_saved))]
     fn edit<L: Ledger>(

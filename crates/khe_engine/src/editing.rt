@@ -56,6 +56,7 @@ fn room_for_child<N: GraphWatcher>(
     requires of { N.IsOf listeners.old inst.now }
     ensures of { N.IsOf listeners.new inst.now }
     ensures told { N.told listeners.new ≡ N.told listeners.old }
+    ensures owed { N.owed listeners.new inst.now ≡ N.owed listeners.old inst.now }
     ensures lines { (N.board listeners.new).lines ≡ (N.board listeners.old).lines }
     ensures groups { (N.board listeners.new).groups ≡ (N.board listeners.old).groups }
     ensures marked { (N.board listeners.new).marked ≡ (N.board listeners.old).marked }
@@ -105,7 +106,7 @@ fn edit_meets<N: GraphWatcher, L: Ledger>(
     ensures state { (state_of solution.new.slots (N.board listeners.new)) ≡ edited (state_of solution.old.slots (N.board listeners.old)) edit }
     ensures record_ { IsRecorded inst.now (N.board listeners.new).seats (changes (state_of solution.old.slots (N.board listeners.old)) edit) (state_of solution.old.slots (N.board listeners.old)) (state_of solution.new.slots (N.board listeners.new)) journal.old.since journal.new.since }
     ensures spare { journal.new.spare + records journal.new.since ≡ journal.old.spare + records journal.old.since }
-    ensures steps { steps.new ≤ steps.old + watcher_counts inst.now solution.old.slots (changes (state_of solution.old.slots (N.board listeners.old)) edit) }
+    ensures steps { steps.new + N.owed listeners.new inst.now ≤ steps.old + N.owed listeners.old inst.now + watcher_counts inst.now solution.old.slots (changes (state_of solution.old.slots (N.board listeners.old)) edit) }
 {
     let _ = inst;
     let back = solution.back(&edit);
@@ -141,7 +142,7 @@ fn edit_groups<N: GraphWatcher, L: Ledger>(
     ensures state { (state_of solution.new.slots (N.board listeners.new)) ≡ edited (state_of solution.old.slots (N.board listeners.old)) edit }
     ensures record_ { IsRecorded inst.now (N.board listeners.new).seats (changes (state_of solution.old.slots (N.board listeners.old)) edit) (state_of solution.old.slots (N.board listeners.old)) (state_of solution.new.slots (N.board listeners.new)) journal.old.since journal.new.since }
     ensures spare { journal.new.spare + records journal.new.since ≡ journal.old.spare + records journal.old.since }
-    ensures steps { steps.new ≤ steps.old + watcher_counts inst.now solution.old.slots (changes (state_of solution.old.slots (N.board listeners.old)) edit) }
+    ensures steps { steps.new + N.owed listeners.new inst.now ≤ steps.old + N.owed listeners.old inst.now + watcher_counts inst.now solution.old.slots (changes (state_of solution.old.slots (N.board listeners.old)) edit) }
 {
     let _ = solution;
     let _ = steps;
@@ -176,7 +177,7 @@ pub(crate) fn make<N: GraphWatcher, L: Ledger>(
     ensures state { (state_of solution.new.slots (N.board listeners.new)) ≡ edited (state_of solution.old.slots (N.board listeners.old)) edit }
     ensures record_ { IsRecorded inst.now (N.board listeners.new).seats (changes (state_of solution.old.slots (N.board listeners.old)) edit) (state_of solution.old.slots (N.board listeners.old)) (state_of solution.new.slots (N.board listeners.new)) journal.old.since journal.new.since }
     ensures spare { journal.new.spare + records journal.new.since ≡ journal.old.spare + records journal.old.since }
-    ensures steps { steps.new ≤ steps.old + watcher_counts inst.now solution.old.slots (changes (state_of solution.old.slots (N.board listeners.old)) edit) }
+    ensures steps { steps.new + N.owed listeners.new inst.now ≤ steps.old + N.owed listeners.old inst.now + watcher_counts inst.now solution.old.slots (changes (state_of solution.old.slots (N.board listeners.old)) edit) }
 {
     if is_of_groups(&edit) {
         edit_groups(inst, solution, listeners, journal, edit, steps)
@@ -196,6 +197,7 @@ pub(crate) fn prepare<N: GraphWatcher>(
     requires of { N.IsOf listeners.old inst.now }
     ensures of { N.IsOf listeners.new inst.now }
     ensures told { N.told listeners.new ≡ N.told listeners.old }
+    ensures owed { N.owed listeners.new inst.now ≡ N.owed listeners.old inst.now }
     ensures lines { (N.board listeners.new).lines ≡ (N.board listeners.old).lines }
     ensures groups { (N.board listeners.new).groups ≡ (N.board listeners.old).groups }
     ensures marked { (N.board listeners.new).marked ≡ (N.board listeners.old).marked }
@@ -240,8 +242,8 @@ pub(crate) fn edit_any<N: GraphWatcher, L: Ledger>(
     ensures made { IfOk result (λ n. n ≡ made (state_of solution.old.slots (N.board listeners.old)) edit) }
     ensures state { OnOk result ((state_of solution.new.slots (N.board listeners.new)) ≡ edited (state_of solution.old.slots (N.board listeners.old)) edit) }
     ensures saved { OnOk result (saved_of (state_of solution.new.slots (N.board listeners.new)) journal.new.since ≡ grown (changes (state_of solution.old.slots (N.board listeners.old)) edit) (saved_of (state_of solution.old.slots (N.board listeners.old)) journal.old.since)) }
-    ensures steps { OnOk result (steps.new ≤ steps.old + watcher_counts inst.now solution.old.slots (changes (state_of solution.old.slots (N.board listeners.old)) edit)) }
-    ensures err { OnErr result (((state_of solution.new.slots (N.board listeners.new)) ≡ (state_of solution.old.slots (N.board listeners.old))) × (journal.new.since ≡ journal.old.since) × (steps.new ≡ steps.old)) }
+    ensures steps { OnOk result (steps.new + N.owed listeners.new inst.now ≤ steps.old + N.owed listeners.old inst.now + watcher_counts inst.now solution.old.slots (changes (state_of solution.old.slots (N.board listeners.old)) edit)) }
+    ensures err { OnErr result (((state_of solution.new.slots (N.board listeners.new)) ≡ (state_of solution.old.slots (N.board listeners.old))) × (journal.new.since ≡ journal.old.since) × (steps.new ≡ steps.old) × (N.owed listeners.new inst.now ≡ N.owed listeners.old inst.now)) }
     ensures spare { journal.old.spare + records journal.old.since ≤ journal.new.spare + records journal.new.since }
     ensures room { refusal inst.now (state_of solution.old.slots (N.board listeners.old)) edit ≡ None → groups.adds_child edit ≡ false → 1 ≤ journal.old.spare → IsOk result }
     ensures unmarked { refusal inst.now (state_of solution.old.slots (N.board listeners.old)) edit ≡ None → groups.adds_child edit ≡ false → journal.old.since ≡ [] → IsOk result }

@@ -233,6 +233,7 @@ impl<'i, F: Family> Engine<'i, F> {
         ensures marked { self.new.marked ≡ self.old.marked }
         ensures spare { self.old.spare + kept self.old.saved ≤ self.new.spare + kept self.new.saved }
         ensures steps { steps.new ≤ steps.old + last_cost self.old.parts self.old.saved }
+        ensures no_steps { OnErr result (steps.new ≡ steps.old) }
     {
         if self.journal.marks() == 0 {
             return Err(Refusal::NoMark);
@@ -305,9 +306,10 @@ impl<'i, F: Family> Engine<'i, F> {
 }
 
 impl<'i, F: Family> Engine<'i, F> {
-    /// The same, which measures nothing until it has caught up. It takes constant time and no memory.
+    /// The same, which measures nothing until it has caught up. It owes no step, and takes constant time and no memory.
     pub fn put_off(self) -> Behind<'i, F>
-        ensures { result ≡ self.entry }
+        ensures same { result.world ≡ self.entry }
+        ensures owed { result.owed ≡ 0 }
     {
         let Engine {
             inst,

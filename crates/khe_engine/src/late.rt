@@ -3,6 +3,7 @@
 ghost use Rattle.std.specs.Prelude.{◌≡◌, ◌<◌, ◌≤◌, ◌+◌, ◌++◌, ◌∷◌, [], length, vec_capacity, vec_len};
 ghost use Rattle.khe_told.specs.Changes.{after_all};
 ghost use Rattle.khe_told.specs.Fits.{AllFit};
+ghost use Rattle.khe_told.specs.Watchers.{watcher_counts};
 ghost use Rattle.khe_engine.specs.Late.{IsBehind, IsPut, LeadAlike};
 ghost use Rattle.khe_engine.specs.Settled.{IsIdle};
 ghost use Rattle.khe_engine.specs.States.{HaveSameGroups};
@@ -12,9 +13,8 @@ use crate::listeners::Listeners;
 use crate::regrouping::GraphWatcher;
 use khe_base::{GroupId, NoMemory};
 use khe_instance::Instance;
-use khe_told::{Back, Blank, Change, Edit, Family, Steps, Watcher};
+use khe_told::{Back, Change, Edit, Family, Steps, Watcher};
 use monitor_graph::Graph;
-use std::marker::Brand;
 use std::sync::ledger::Ledger;
 
 /// The listeners, and the changes that they were not told of yet. A change that takes the last of these back
@@ -31,17 +31,13 @@ pub(crate) struct Late<F: Family> {
     pub(crate) defers: bool,
 }
 
-/// Tells the families changes that fit one after the other. The steps are counted by themselves: the edits that
-/// made the changes are over.
+/// Tells the families changes that fit one after the other.
 fn follow<F: Family, L: Ledger>(
     inst: &Instance,
     listeners: &mut Listeners<F>,
     changes: &[Change],
-    blank: Blank,
+    steps: &mut Steps<L>,
 )
-    requires name { blank.name ≡ L.name }
-    requires shares { blank.parts ≡ L.parts }
-    requires some { 0 < blank.parts }
     requires of { F.IsOf listeners.old.families inst.now }
     requires serves { ServesAll F.serves_kind }
     requires values { HasValues inst.now (F.told listeners.old.families) listeners.old.graph }
@@ -52,9 +48,9 @@ fn follow<F: Family, L: Ledger>(
     ensures values { HasValues inst.now (F.told listeners.new.families) listeners.new.graph }
     ensures idle { IsIdle inst.now listeners.new.waiting }
     ensures rest { HaveSameGroups listeners.old.graph listeners.new.graph }
+    ensures steps { steps.new ≤ steps.old + watcher_counts inst.now (F.told listeners.old.families) changes.now }
 {
-    let mut steps = Steps::<L>::new(blank);
-    listeners.note_all(inst, changes, &mut steps);
+    listeners.note_all(inst, changes, steps);
 }
 
 /// Adds a change at the end of a list that has room for it.
@@ -97,8 +93,10 @@ fn put_all(list: &mut Vec<Change>, changes: &[Change])
 }
 
 impl<F: Family> Late<F> {
-    /// Tells the families what they were not told yet.
-    pub(crate) fn catch_up(&mut self, inst: &Instance)
+    /// Tells the families what they were not told yet, and measures whom that may alter: at most one step for each
+    /// watcher of what is owed.
+    #[tactic(auto, using(crate::proofs::ValueLaws::same_groups))]
+    pub(crate) fn catch_up<L: Ledger>(&mut self, inst: &Instance, steps: &mut Steps<L>)
         requires of { F.IsOf self.old.listeners.families inst.now }
         requires serves { ServesAll F.serves_kind }
         requires values { HasValues inst.now (F.told self.old.listeners.families) self.old.listeners.graph }
@@ -111,13 +109,9 @@ impl<F: Family> Late<F> {
         ensures none { self.new.changes.items ≡ [] }
         ensures room { vec_capacity self.old.changes ≤ vec_capacity self.new.changes }
         ensures rest { HaveSameGroups self.old.listeners.graph self.new.listeners.graph }
+        ensures steps { steps.new ≤ steps.old + watcher_counts inst.now (F.told self.old.listeners.families) self.old.changes.items }
     {
-        follow::<F, Brand>(
-            inst,
-            &mut self.listeners,
-            self.changes.as_slice(),
-            Blank::new(1),
-        );
+        follow(inst, &mut self.listeners, self.changes.as_slice(), steps);
         self.changes.clear();
     }
 }
@@ -127,6 +121,7 @@ impl<F: Family> Watcher for Late<F> {
     ghost use Rattle.std.proofs.Common.{◌∙◌, refl};
     ghost use Rattle.khe_solution.specs.Timetables.{HasRoom};
     ghost use Rattle.khe_told.specs.Changes.{after_all};
+    ghost use Rattle.khe_told.specs.Watchers.{watcher_counts};
     ghost use Rattle.khe_engine.specs.Late.{IsBehind};
     ghost use Rattle.khe_engine.specs.Settled.{IsIdle};
     ghost use Rattle.khe_engine.specs.Values.{HasValues, ServesAll};
@@ -142,6 +137,8 @@ impl<F: Family> Watcher for Late<F> {
 
     ghost is_silent = { false };
 
+    ghost owed = { λ x p. watcher_counts p (F.told x.listeners.families) x.changes.items };
+
     ghost HasSameRest = { λ x y. HaveSameGroups x.listeners.graph y.listeners.graph };
 
     fn note<L: Ledger>(&mut self, inst: &Instance, change: Change, steps: &mut Steps<L>) {
@@ -149,14 +146,13 @@ impl<F: Family> Watcher for Late<F> {
     }
 
     fn note_all<L: Ledger>(&mut self, inst: &Instance, changes: &[Change], steps: &mut Steps<L>) {
-        let _ = steps;
         let room = self.changes.capacity() - self.changes.len();
         if self.defers && changes.len() <= room {
             put_all(&mut self.changes, changes);
             return;
         }
-        self.catch_up(inst);
-        follow::<F, Brand>(inst, &mut self.listeners, changes, Blank::new(1));
+        self.catch_up(inst, steps);
+        follow(inst, &mut self.listeners, changes, steps);
     }
 
     ghost same_rest_refl = { λ x. record { grouping = refl; marked = refl; seats = refl } };

@@ -139,7 +139,7 @@ fn listen<F: Family, L: Ledger>(
     late.changes.clear();
     solution.facts();
     tell_all(inst, solution, &mut late, &mut steps);
-    late.catch_up(inst);
+    late.catch_up(inst, &mut steps);
     late
 }
 

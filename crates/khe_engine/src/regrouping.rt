@@ -13,7 +13,7 @@ use khe_told::{Back, Edit, Watcher};
 use monitor_graph::Graph;
 
 /// A watcher of the changes of meets and tasks that has the graph, through which monitors are attached and grouped.
-/// What it is told and what its graph's monitors deviate by stays in each call.
+/// What it is told, what it owes and what its graph's monitors deviate by stays in each call.
 pub(crate) trait GraphWatcher: Watcher {
     /// The graph.
     ghost board: { Self → Board };
@@ -27,6 +27,7 @@ pub(crate) trait GraphWatcher: Watcher {
         requires of { Self.IsOf self.old inst.now }
         ensures of { Self.IsOf self.new inst.now }
         ensures told { Self.told self.new ≡ Self.told self.old }
+        ensures owed { Self.owed self.new inst.now ≡ Self.owed self.old inst.now }
         ensures lines { (board self.new).lines ≡ (board self.old).lines }
         ensures groups { (board self.new).groups ≡ (board self.old).groups }
         ensures marked { (board self.new).marked ≡ (board self.old).marked }
@@ -42,6 +43,7 @@ pub(crate) trait GraphWatcher: Watcher {
         requires room { groups.adds_child edit ≡ true → HasSeat (board self.old).groups (board self.old).seats (groups.adds_to edit) }
         ensures of { Self.IsOf self.new inst.now }
         ensures told { Self.told self.new ≡ Self.told self.old }
+        ensures owed { Self.owed self.new inst.now ≡ Self.owed self.old inst.now }
         ensures made { result ≡ groups.made (grouping_of (board self.old)) edit }
         ensures grouping { grouping_of (board self.new) ≡ groups.edited (grouping_of (board self.old)) edit }
         ensures marked { (board self.new).marked ≡ (board self.old).marked }
@@ -54,6 +56,7 @@ pub(crate) trait GraphWatcher: Watcher {
         requires room { groups.inserts_child back ≡ true → HasSeat (board self.old).groups (board self.old).seats (groups.inserts_to back) }
         ensures of { Self.IsOf self.new inst.now }
         ensures told { Self.told self.new ≡ Self.told self.old }
+        ensures owed { Self.owed self.new inst.now ≡ Self.owed self.old inst.now }
         ensures grouping { grouping_of (board self.new) ≡ groups.undone (grouping_of (board self.old)) back }
         ensures marked { (board self.new).marked ≡ (board self.old).marked }
         ensures seats { (board self.new).seats ≡ (board self.old).seats };

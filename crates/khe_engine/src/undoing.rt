@@ -62,7 +62,7 @@ fn revert<N: GraphWatcher, L: Ledger>(
     ensures marked { (N.board listeners.new).marked ≡ (N.board listeners.old).marked }
     ensures seats { (N.board listeners.new).seats ≡ (N.board listeners.old).seats }
     ensures state { (state_of solution.new.slots (N.board listeners.new)) ≡ undone (state_of solution.old.slots (N.board listeners.old)) back }
-    ensures steps { steps.new ≤ steps.old + watcher_counts inst.now solution.new.slots (undone_changes (state_of solution.old.slots (N.board listeners.old)) back) }
+    ensures steps { steps.new + N.owed listeners.new inst.now ≤ steps.old + N.owed listeners.old inst.now + watcher_counts inst.now solution.new.slots (undone_changes (state_of solution.old.slots (N.board listeners.old)) back) }
 {
     if is_back_of_groups(&back) {
         listeners.undo_grouping(inst, back);
@@ -94,7 +94,7 @@ pub(crate) fn unwind<N: GraphWatcher, L: Ledger>(
     ensures outer { outer journal.new.since ≡ outer journal.old.since }
     ensures marks { length journal.new.since ≡ length journal.old.since }
     ensures spare { journal.new.spare + records journal.new.since ≡ journal.old.spare + records journal.old.since }
-    ensures steps { steps.new ≤ steps.old + undo_cost inst.now (state_of solution.old.slots (N.board listeners.old)) (inner journal.old.since) }
+    ensures steps { steps.new + N.owed listeners.new inst.now ≤ steps.old + N.owed listeners.old inst.now + undo_cost inst.now (state_of solution.old.slots (N.board listeners.old)) (inner journal.old.since) }
 {
     while let Some(back) = journal.pop() {
         revert(inst, solution, listeners, back, steps);
@@ -145,7 +145,7 @@ fn fall<N: GraphWatcher, L: Ledger>(
     ensures saved { saved_of (state_of solution.new.slots (N.board listeners.new)) journal.new.since ≡ around (saved_of (state_of solution.old.slots (N.board listeners.old)) journal.old.since) }
     ensures marks { length journal.new.since + 1 ≡ length journal.old.since }
     ensures spare { journal.old.spare + records journal.old.since ≤ journal.new.spare + records journal.new.since }
-    ensures steps { steps.new ≤ steps.old + last_cost inst.now (saved_of (state_of solution.old.slots (N.board listeners.old)) journal.old.since) }
+    ensures steps { steps.new + N.owed listeners.new inst.now ≤ steps.old + N.owed listeners.old inst.now + last_cost inst.now (saved_of (state_of solution.old.slots (N.board listeners.old)) journal.old.since) }
 {
     unwind(inst, solution, listeners, journal, steps);
     let _ = journal.unmark();
@@ -175,7 +175,7 @@ pub(crate) fn unwind_to<N: GraphWatcher, L: Ledger>(
     ensures state { (state_of solution.new.slots (N.board listeners.new)) ≡ last_saved (state_of solution.old.slots (N.board listeners.old)) (from_mark k (saved_of (state_of solution.old.slots (N.board listeners.old)) journal.old.since)) }
     ensures saved { saved_of (state_of solution.new.slots (N.board listeners.new)) journal.new.since ≡ fresh (state_of solution.new.slots (N.board listeners.new)) ∷ around (from_mark k (saved_of (state_of solution.old.slots (N.board listeners.old)) journal.old.since)) }
     ensures spare { journal.old.spare + records journal.old.since ≤ journal.new.spare + records journal.new.since }
-    ensures steps { steps.new ≤ steps.old + trails_cost inst.now (length journal.old.since + 1 - k) (saved_of (state_of solution.old.slots (N.board listeners.old)) journal.old.since) }
+    ensures steps { steps.new + N.owed listeners.new inst.now ≤ steps.old + N.owed listeners.old inst.now + trails_cost inst.now (length journal.old.since + 1 - k) (saved_of (state_of solution.old.slots (N.board listeners.old)) journal.old.since) }
 {
     while journal.marks() > k {
         fall(inst, solution, listeners, journal, steps);

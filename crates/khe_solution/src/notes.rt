@@ -28,7 +28,7 @@ pub(crate) fn note_all<V: Watcher, L: Ledger>(
     ensures told { slots.new ≡ after_all slots.old list.now }
     ensures noted { V.noted watcher.new ≡ option_map (λ cs. cs ++ list.now) (V.noted watcher.old) }
     ensures rest { V.HasSameRest watcher.old watcher.new }
-    ensures steps { steps.new ≤ steps.old + watcher_counts inst.now slots.old list.now }
+    ensures steps { steps.new + V.owed watcher.new inst.now ≤ steps.old + V.owed watcher.old inst.now + watcher_counts inst.now slots.old list.now }
     ensures silent { V.is_silent ≡ true → steps.new ≡ steps.old }
 {
     for change in list {
@@ -74,7 +74,7 @@ pub(crate) fn note_back<V: Watcher, L: Ledger>(
     ensures told { slots.new ≡ after_all slots.old (inverses list.old.items) }
     ensures noted { V.noted watcher.new ≡ option_map (λ cs. cs ++ inverses list.old.items) (V.noted watcher.old) }
     ensures rest { V.HasSameRest watcher.old watcher.new }
-    ensures steps { steps.new ≤ steps.old + watcher_counts inst.now slots.old (inverses list.old.items) }
+    ensures steps { steps.new + V.owed watcher.new inst.now ≤ steps.old + V.owed watcher.old inst.now + watcher_counts inst.now slots.old (inverses list.old.items) }
     ensures silent { V.is_silent ≡ true → steps.new ≡ steps.old }
     ensures room { vec_capacity list.old ≤ vec_capacity list.new }
 {

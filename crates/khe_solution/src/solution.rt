@@ -163,7 +163,7 @@ impl<'i> Solution<'i> {
         ensures answer { result ≡ answer (refusal self.old.parts self.old.slots edit) (made self.old.slots edit) }
         ensures slots { OnOk result (self.new.slots ≡ edited self.old.slots edit) }
         ensures noted { OnOk result (V.noted watcher.new ≡ option_map (λ cs. cs ++ changes self.old.slots edit) (V.noted watcher.old)) }
-        ensures steps { OnOk result (steps.new ≤ steps.old + watcher_counts self.old.parts self.old.slots (changes self.old.slots edit)) }
+        ensures steps { OnOk result (steps.new + V.owed watcher.new self.old.parts ≤ steps.old + V.owed watcher.old self.old.parts + watcher_counts self.old.parts self.old.slots (changes self.old.slots edit)) }
         ensures refused { OnErr result ((self.new ≡ self.old) × (watcher.new ≡ watcher.old) × (steps.new ≡ steps.old)) }
 
         ensures parts { self.new.parts ≡ self.old.parts }
@@ -228,7 +228,7 @@ impl<'i> Solution<'i> {
 
         ensures slots { self.new.slots ≡ undone self.old.slots back }
         ensures noted { V.noted watcher.new ≡ option_map (λ cs. cs ++ inverses (undone_changes self.old.slots back)) (V.noted watcher.old) }
-        ensures steps { steps.new ≤ steps.old + watcher_counts self.old.parts self.new.slots (undone_changes self.old.slots back) }
+        ensures steps { steps.new + V.owed watcher.new self.old.parts ≤ steps.old + V.owed watcher.old self.old.parts + watcher_counts self.old.parts self.new.slots (undone_changes self.old.slots back) }
 
         ensures parts { self.new.parts ≡ self.old.parts }
         ensures of { V.IsOf watcher.new self.old.parts }

@@ -1,6 +1,6 @@
 //! The trait of what is notified of each change of a timetable.
 
-ghost use Rattle.std.specs.Prelude.{◌≡◌, ◌≤◌, ◌+◌, ◌++◌, ◌∷◌, [], Bool, true, List, Option};
+ghost use Rattle.std.specs.Prelude.{ℕ, ◌≡◌, ◌≤◌, ◌+◌, ◌++◌, ◌∷◌, [], Bool, true, List, Option};
 ghost use Rattle.std.specs.Option.{option_map};
 ghost use Rattle.khe_instance.specs.declared.parts.Parts.{Parts};
 ghost use Rattle.khe_told.specs.declared.slots.Slot.{Slot};
@@ -30,11 +30,14 @@ pub trait Watcher {
     /// Whether it never takes a step.
     ghost is_silent: { Bool };
 
+    /// How many steps it owes at most: those that it has yet to take for changes that it was noted of.
+    ghost owed: { Self → Parts → ℕ } = { λ _ _. 0 };
+
     /// That all else is the same in both.
     ghost HasSameRest: { Self → Self → Type 0 };
 
-    /// Follows a change that fits what it was told. It takes no memory, and at most one step for each
-    /// watcher of the change.
+    /// Follows a change that fits what it was told. It takes no memory, and takes or owes at most one step
+    /// more for each watcher of the change.
     fn note<L: Ledger>(&mut self, inst: &Instance, change: Change, steps: &mut Steps<L>)
         requires of { IsOf self.old inst.now }
         requires fits { Fits inst.now (told self.old) change }
@@ -42,7 +45,7 @@ pub trait Watcher {
         ensures told { told self.new ≡ after (told self.old) change }
         ensures noted { noted self.new ≡ option_map (λ cs. cs ++ change ∷ []) (noted self.old) }
         ensures rest { HasSameRest self.old self.new }
-        ensures steps { steps.new ≤ steps.old + watcher_count inst.now (told self.old) change }
+        ensures steps { steps.new + owed self.new inst.now ≤ steps.old + owed self.old inst.now + watcher_count inst.now (told self.old) change }
         ensures silent { is_silent ≡ true → steps.new ≡ steps.old };
 
     /// Follows changes that fit one after the other.
@@ -53,7 +56,7 @@ pub trait Watcher {
         ensures told { told self.new ≡ after_all (told self.old) changes.now }
         ensures noted { noted self.new ≡ option_map (λ cs. cs ++ changes.now) (noted self.old) }
         ensures rest { HasSameRest self.old self.new }
-        ensures steps { steps.new ≤ steps.old + watcher_counts inst.now (told self.old) changes.now }
+        ensures steps { steps.new + owed self.new inst.now ≤ steps.old + owed self.old inst.now + watcher_counts inst.now (told self.old) changes.now }
         ensures silent { is_silent ≡ true → steps.new ≡ steps.old };
 
     ghost same_rest_refl: { (x : Self) → HasSameRest x x };

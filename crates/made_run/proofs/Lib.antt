@@ -1,2 +1,3 @@
 pub mod CourseLaws
 pub mod RunLaws
+pub mod StepLaws

@@ -10,6 +10,8 @@ ghost use Rattle.made_run.specs.Commands as spec;
 ghost use Rattle.made_run.specs.Courses.{after, course, course_of, started};
 ghost use Rattle.made_run.specs.Lines.{made_line};
 ghost use Rattle.made_run.specs.Runs.{IsJob, IsRunLine};
+ghost use Rattle.made_run.specs.Steps.{run_steps, traced_all};
+ghost use Rattle.script_run.specs.Steps.{command_steps, trace_of, traced};
 
 use crate::drawing::draw_edit;
 use crate::lines::{push_counts, push_deficit, push_instance, push_job, push_totals};
@@ -68,10 +70,10 @@ pub fn run_line<F: Family + Drop>(
     run_on::<F, Brand>(alloc, engine.put_off(), draws, job, Blank::new(1))
 }
 
-/// Runs the edits of a job on an engine, and forms the line.
+/// Runs the edits of a job on an engine, with the steps in a ledger of its own, and forms the line.
 fn run_on<F: Family + Drop, L: Ledger>(
     alloc: Global,
-    mut engine: Behind<'_, F>,
+    engine: Behind<'_, F>,
     draws: &mut Draws,
     job: Job,
     blank: Blank,
@@ -79,14 +81,32 @@ fn run_on<F: Family + Drop, L: Ledger>(
     requires name { blank.name ≡ L.name }
     requires shares { blank.parts ≡ L.parts }
     requires some { 0 < blank.parts }
-    requires marks { engine.saved ≡ [] }
+    requires marks { engine.world.saved ≡ [] }
     requires small { job.size < 2 ^ 28 }
     requires slots { 1 ≤ job.slots }
-    ensures { IfOk result (λ t. t ≡ made_line job.seed job.size engine.entry.parts (course engine.entry.parts (started engine.entry.state) (spec.drawn_commands job.size job.slots draws.old.state))) }
+    ensures { IfOk result (λ t. t ≡ made_line job.seed job.size engine.entry.world.parts (course engine.entry.world.parts (started engine.entry.world.state) (spec.drawn_commands job.size job.slots draws.old.state))) }
 {
     let mut steps = Steps::<L>::new(blank);
-    let counts = run_all(&mut engine, draws, job, &mut steps)?;
-    let engine = engine.caught_up();
+    run_counting(alloc, engine, draws, job, &mut steps)
+}
+
+/// Runs the edits of a job on an engine, and forms the line. It takes at most as many steps as the engine owes and as
+/// the changes of all edits that are accepted, and of all that is undone, have watchers.
+fn run_counting<F: Family + Drop, L: Ledger>(
+    alloc: Global,
+    mut engine: Behind<'_, F>,
+    draws: &mut Draws,
+    job: Job,
+    steps: &mut Steps<L>,
+) -> Result<Text, NoMemory>
+    requires marks { engine.world.saved ≡ [] }
+    requires small { job.size < 2 ^ 28 }
+    requires slots { 1 ≤ job.slots }
+    ensures line { IfOk result (λ t. t ≡ made_line job.seed job.size engine.entry.world.parts (course engine.entry.world.parts (started engine.entry.world.state) (spec.drawn_commands job.size job.slots draws.old.state))) }
+    ensures steps { steps.new ≤ steps.old + engine.entry.owed + run_steps engine.entry.world.parts (trace_of engine.entry.world) (spec.drawn_commands job.size job.slots draws.old.state) }
+{
+    let counts = run_all(&mut engine, draws, job, steps)?;
+    let engine = engine.caught_up(steps);
     line_on(alloc, &engine, job, counts)
 }
 
@@ -97,11 +117,12 @@ fn run_all<F: Family, L: Ledger>(
     job: Job,
     steps: &mut Steps<L>,
 ) -> Result<Counts, NoMemory>
-    requires marks { engine.old.saved ≡ [] }
+    requires marks { engine.old.world.saved ≡ [] }
     requires small { job.size < 2 ^ 28 }
     requires slots { 1 ≤ job.slots }
-    ensures parts { engine.new.parts ≡ engine.old.parts }
-    ensures course { IfOk result (λ n. course_of engine.new n ≡ course engine.old.parts (started engine.old.state) (spec.drawn_commands job.size job.slots draws.old.state)) }
+    ensures parts { engine.new.world.parts ≡ engine.old.world.parts }
+    ensures course { IfOk result (λ n. course_of engine.new.world n ≡ course engine.old.world.parts (started engine.old.world.state) (spec.drawn_commands job.size job.slots draws.old.state)) }
+    ensures steps { steps.new + engine.new.owed ≤ steps.old + engine.old.owed + run_steps engine.old.world.parts (trace_of engine.old.world) (spec.drawn_commands job.size job.slots draws.old.state) }
 {
     let mut counts = Counts {
         accepted: 0,
@@ -126,10 +147,12 @@ fn step<F: Family, L: Ledger>(
 ) -> Result<(), NoMemory>
     requires slots { 1 ≤ job.slots }
     requires few { counts.old.accepted + counts.old.refused < 2 ^ 32 - 1 }
-    ensures parts { engine.new.parts ≡ engine.old.parts }
-    ensures course { OnOk result (course_of engine.new counts.new ≡ course engine.old.parts (course_of engine.old counts.old) (spec.step job.size job.slots number draws.old.state).0) }
+    ensures parts { engine.new.world.parts ≡ engine.old.world.parts }
+    ensures course { OnOk result (course_of engine.new.world counts.new ≡ course engine.old.world.parts (course_of engine.old.world counts.old) (spec.step job.size job.slots number draws.old.state).0) }
     ensures state { OnOk result (draws.new.state ≡ (spec.step job.size job.slots number draws.old.state).1) }
     ensures counted { OnOk result (counts.new.accepted + counts.new.refused ≡ counts.old.accepted + counts.old.refused + 1) }
+    ensures traced { OnOk result (trace_of engine.new.world ≡ traced_all engine.old.world.parts (trace_of engine.old.world) (spec.step job.size job.slots number draws.old.state).0) }
+    ensures steps { steps.new + engine.new.owed ≤ steps.old + engine.old.owed + run_steps engine.old.world.parts (trace_of engine.old.world) (spec.step job.size job.slots number draws.old.state).0 }
 {
     begin_before(engine, number);
     let edit = draw_edit(draws, job.size, job.slots);
@@ -148,9 +171,11 @@ fn carry_out<F: Family, L: Ledger>(
     steps: &mut Steps<L>,
 ) -> Result<(), NoMemory>
     requires few { counts.old.accepted + counts.old.refused < 2 ^ 32 - 1 }
-    ensures parts { engine.new.parts ≡ engine.old.parts }
-    ensures course { OnOk result (course_of engine.new counts.new ≡ after engine.old.parts (course_of engine.old counts.old) (command.Edit edit)) }
+    ensures parts { engine.new.world.parts ≡ engine.old.world.parts }
+    ensures course { OnOk result (course_of engine.new.world counts.new ≡ after engine.old.world.parts (course_of engine.old.world counts.old) (command.Edit edit)) }
     ensures counted { OnOk result (counts.new.accepted + counts.new.refused ≡ counts.old.accepted + counts.old.refused + 1) }
+    ensures traced { OnOk result (trace_of engine.new.world ≡ traced engine.old.world.parts (trace_of engine.old.world) (command.Edit edit)) }
+    ensures steps { steps.new + engine.new.owed ≤ steps.old + engine.old.owed + command_steps engine.old.world.parts (trace_of engine.old.world) (command.Edit edit) }
 {
     match engine.edit(edit, steps) {
         Ok(_) => {

@@ -1,9 +1,10 @@
 -- The answers to all lines of a script in order, up to the first line without a reading and the line that says why.
 use Rattle.std.specs.Prelude.{ℕ, ◌+◌, Bool, Option, Some, None, Result, Ok, Err, List, [], ◌∷◌, ◌++◌, is_ok}
 use Rattle.std.specs.List.{list_all}
+use Rattle.std.specs.Option.{option_map}
 use Rattle.script_run.specs.Faults.{fault_line}
 use Rattle.khe_instance.specs.declared.parts.Parts.{Parts}
-use Rattle.khe_engine.specs.Worlds.{World}
+use Rattle.khe_engine.specs.Worlds.{Owing, World}
 use Rattle.edit_script.specs.Lines.{lines}
 use Rattle.edit_script.specs.Reading.{reading}
 use Rattle.edit_script.specs.declared.commands.LineFault.{LineFault}
@@ -27,8 +28,8 @@ abbrev pub answers : Parts → Play → ℕ → List (List ℕ) → List ℕ
 answers p = answers_by reading (answer p) (played p)
 
 -- the engine of two places that is there: one that measures at once, or one that is put off
-abbrev pub either : Option World → Option World → Option World
-either None behind = behind
+abbrev pub either : Option World → Option Owing → Option World
+either None behind = option_map (λ b. b.world) behind
 either (Some w) behind = Some w
 
 -- the same of an engine, and nothing where there is none

@@ -20,5 +20,5 @@ pub use onward::Onward;
 pub use players::Player;
 pub use putting_off::PutOff;
 pub use questions::push_question_answer;
-pub use running::run;
+pub use running::{run, run_counting};
 pub use shortages::Shortages;

@@ -1,12 +1,13 @@
 //! A script on an engine that catches up only where a line asks for something.
 
-ghost use Rattle.std.specs.Prelude.{◌≡◌, ◌≤◌, ◌++◌, None, Some, true, false, OnOk, OnErr, IsErrOf, is_some};
+ghost use Rattle.std.specs.Prelude.{◌≡◌, ◌≤◌, ◌+◌, ◌++◌, None, Some, true, false, OnOk, OnErr, IsErrOf, is_some};
 ghost use Rattle.khe_io.specs.Faults.{Rose};
 ghost use Rattle.khe_engine.specs.Worlds.{World};
 ghost use Rattle.script_run.specs.Added.{IsAdded, IsCutOff};
 ghost use Rattle.script_run.specs.Answers as said;
 ghost use Rattle.script_run.specs.Plays.{asks, is_question, play_of, played};
 ghost use Rattle.script_run.specs.Scripts.{either};
+ghost use Rattle.script_run.specs.Steps.{command_steps, owed_by, trace_of, traced};
 
 use crate::answering::{asks, play_change, push_answer};
 use crate::faults::fault_line;
@@ -43,7 +44,8 @@ pub struct PutOff<'i, F: Family> {
 impl<'i, F: Shortages + Drop> PutOff<'i, F> {
     /// A script runs on this engine. It takes constant time and no memory.
     pub fn new(engine: Engine<'i, F>) -> PutOff<'i, F>
-        ensures { either result.settled result.behind ≡ Some engine.entry }
+        ensures there { either result.settled result.behind ≡ Some engine.entry }
+        ensures owed { owed_by result.behind ≡ 0 }
     {
         PutOff {
             settled: Some(engine),
@@ -53,19 +55,21 @@ impl<'i, F: Shortages + Drop> PutOff<'i, F> {
     }
 
     /// Lets the engine catch up, if it is put off.
-    fn settle(&mut self)
+    fn settle<L: Ledger>(&mut self, steps: &mut Steps<L>)
         ensures settled { self.new.settled ≡ either self.old.settled self.old.behind }
         ensures behind { self.new.behind ≡ None }
+        ensures steps { steps.new ≤ steps.old + owed_by self.old.behind }
     {
         self.in_a_row = 0;
         if let Some(behind) = self.behind.take() {
-            self.settled = Some(behind.caught_up());
+            self.settled = Some(behind.caught_up(steps));
         }
     }
 
     /// Puts the engine off, unless it is.
     fn put_off(&mut self)
-        ensures { either self.new.settled self.new.behind ≡ either self.old.settled self.old.behind }
+        ensures same { either self.new.settled self.new.behind ≡ either self.old.settled self.old.behind }
+        ensures owed { owed_by self.new.behind ≡ owed_by self.old.behind }
     {
         if let Some(engine) = self.settled.take() {
             self.behind = Some(engine.put_off());
@@ -99,12 +103,13 @@ fn answer<F: Shortages, G: Onward>(
 
 impl<'i, F: Shortages + Drop> PutOff<'i, F> {
     /// Adds the answer to a question, once the engine has caught up.
-    fn ask<G: Onward>(
+    fn ask<L: Ledger, G: Onward>(
         &mut self,
         alloc: Global,
         command: Command,
         text: &mut Text,
         onward: &mut G,
+        steps: &mut Steps<L>,
     ) -> Result<(), Cut>
         requires question { is_question command ≡ true }
         ensures same { either self.new.settled self.new.behind ≡ either self.old.settled self.old.behind }
@@ -115,8 +120,9 @@ impl<'i, F: Shortages + Drop> PutOff<'i, F> {
         ensures faultless { OnOk result (G.faults onward.new ≡ G.faults onward.old) }
         ensures faultless_starved { IsErrOf result Cut.NoMemory → G.faults onward.new ≡ G.faults onward.old }
         ensures counted { G.faults onward.old ≤ G.faults onward.new }
+        ensures steps { steps.new + owed_by self.new.behind ≤ steps.old + owed_by self.old.behind }
     {
-        self.settle();
+        self.settle(steps);
         let Some(engine) = self.settled.as_ref() else {
             unreachable!()
         };
@@ -134,6 +140,8 @@ impl<'i, F: Shortages + Drop> PutOff<'i, F> {
         requires change { asks command ≡ false }
         ensures played { (w : World) → either self.old.settled self.old.behind ≡ Some w → (v : World) × (either self.new.settled self.new.behind ≡ Some v) × (v.parts ≡ w.parts) × OnOk result (play_of v ≡ played w.parts (play_of w) command) }
         ensures text { (w : World) → either self.old.settled self.old.behind ≡ Some w → OnOk result (text.new ≡ text.old ++ said.answer w.parts (play_of w) command) }
+        ensures traced { (w : World) → either self.old.settled self.old.behind ≡ Some w → (v : World) × (either self.new.settled self.new.behind ≡ Some v) × (v.parts ≡ w.parts) × OnOk result (trace_of v ≡ traced w.parts (trace_of w) command) }
+        ensures steps { (w : World) → either self.old.settled self.old.behind ≡ Some w → steps.new + owed_by self.new.behind ≤ steps.old + owed_by self.old.behind + command_steps w.parts (trace_of w) command }
     {
         if let Some(engine) = self.settled.as_mut() {
             return play_change(alloc, engine, command, text, steps);
@@ -160,9 +168,11 @@ impl<'i, F: Shortages + Drop> PutOff<'i, F> {
         ensures faultless { OnOk result (G.faults onward.new ≡ G.faults onward.old) }
         ensures faultless_starved { IsErrOf result Cut.NoMemory → G.faults onward.new ≡ G.faults onward.old }
         ensures counted { G.faults onward.old ≤ G.faults onward.new }
+        ensures traced { (w : World) → either self.old.settled self.old.behind ≡ Some w → (v : World) × (either self.new.settled self.new.behind ≡ Some v) × (v.parts ≡ w.parts) × OnOk result (trace_of v ≡ traced w.parts (trace_of w) command) }
+        ensures steps { (w : World) → either self.old.settled self.old.behind ≡ Some w → steps.new + owed_by self.new.behind ≤ steps.old + owed_by self.old.behind + command_steps w.parts (trace_of w) command }
     {
         if asks(command) {
-            return self.ask(alloc, command, text, onward);
+            return self.ask(alloc, command, text, onward, steps);
         }
         if self.in_a_row >= IN_A_ROW {
             self.put_off();
@@ -174,12 +184,19 @@ impl<'i, F: Shortages + Drop> PutOff<'i, F> {
 }
 
 impl<'i, F: Shortages + Drop> Player for PutOff<'i, F> {
-    ghost use Rattle.std.specs.Prelude.{refl};
+    ghost use Rattle.std.specs.Prelude.{refl, true};
     ghost use Rattle.script_run.specs.Scripts as spec;
+    ghost use Rattle.script_run.specs.Steps as counts;
 
     ghost answers = { λ e. spec.answers_of (spec.either e.settled e.behind) };
 
     ghost reads = { spec.reads };
+
+    ghost is_counted = { true };
+
+    ghost owed = { λ e. counts.owed_by e.behind };
+
+    ghost ahead = { λ e ls. counts.steps_of (spec.either e.settled e.behind) ls };
 
     ghost ends = { λ x number. refl };
 

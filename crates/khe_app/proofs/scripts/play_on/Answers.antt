@@ -15,7 +15,7 @@ returns-in-Ok-clause-written g c =
     let e = c.run-ended.ensures in
     let player = c.new-player.result in
     let same = answers_there (either player.settled player.behind) c.in-Ok.engine 1 (lines c.args.script.now)
-    c.new-player.ensures in
+    c.new-player.ensures.there in
     inr (run_written c.args.inst.now c.args.plain.now c.in-Ok.engine c.args.script.now c.run-ended.result before after
     (g.K.Sink.faults c.args.out.now) (g.K.Sink.faults c.run-ended.new.out) c.status_after.result.0
     c.in-Ok.ensures.parts c.in-Ok.ensures.state c.in-Ok.ensures.saved e.read

@@ -1,4 +1,4 @@
-use Rattle.std.proofs.Common.{◌≡◌, ◌+◌, ◌≤◌, refl, sym, ap, subst, ◌∙◌, arith}
+use Rattle.std.proofs.Common.{◌≡◌, refl, sym, ap, ◌∙◌, arith}
 use Rattle.khe_instance.specs.declared.parts.Parts.{Parts}
 use Rattle.khe_told.specs.Watchers.{watcher_counts}
 use Rattle.monitor_graph.specs.Groups.{seats_at}
@@ -73,8 +73,11 @@ returns g c =
       state = m.state ∙ ap (λ (x : State). edited x c.args.edit) same;
       saved = recorded_saved p b2.seats cs s1 s2 since1 since2 m.record_
           ∙ (λ i. grown (changes (same i) c.args.edit) (saved_of (same i) (e.since i)));
-      steps = subst (λ (x : State). c.make.new.steps ≤ c.args.steps.now + watcher_counts p slots (changes x c.args.edit))
-          same m.steps;
+      steps =
+          let taken = m.steps in
+          let owed = e.owed in
+          let counts = ap (λ (x : State). watcher_counts p slots (changes x c.args.edit)) same in
+          omega (arith, taken, owed, counts);
       err = tt;
       spare = let a = m.spare in let n = e.kept in let l = ap records e.since in omega (arith, a, n, l);
       room = λ a k l. refl;

@@ -64,5 +64,5 @@ returns g c =
           c.back-back.ensures.grouping)
           (subst (λ (b : Board). HaveRoom b.groups b.seats) at c.facts.ensures.seats) now c.keep.ensures.since);
       spare = c.keep.ensures.spare;
-      steps = omega arith;
+      steps = let owed = r.owed in omega (arith, owed);
     }

@@ -1,11 +1,11 @@
-use Rattle.std.proofs.Common.{ℕ, ◌≡◌, ◌+◌, ◌≤◌, None, Ok, sym, ap, subst, ◌∙◌}
+use Rattle.std.proofs.Common.{◌≡◌, ◌+◌, ◌≤◌, None, Ok, arith, sym, ap, subst, ◌∙◌}
 use Rattle.khe_instance.specs.declared.parts.Parts.{Parts}
 use Rattle.khe_told.specs.Watchers.{watcher_counts}
 use Rattle.khe_solution.specs.Backs as backs
 use Rattle.khe_solution.specs.Changing as changing
 use Rattle.khe_solution.specs.Editing as editing
 use Rattle.khe_solution.specs.Refusing as refusing
-use Rattle.khe_engine.specs.States.{state_of, changes}
+use Rattle.khe_engine.specs.States.{state_of}
 use Rattle.khe_engine.proofs.StateLaws.{other_sort, refusal_meets, edited_meets, made_meets, changes_meets, recorded_meets}
 use Rattle.khe_engine.proofs.editing.edit_meets.Goals as goal
 
@@ -60,10 +60,6 @@ returns g c =
       slots = said.slots i;
       grouping = sym rest.grouping i;
     } in
-    let counts : watcher_counts c.args.solution.now.parts slots (changing.changes slots e)
-    ≡ watcher_counts p slots (changes s e) =
-    ap (λ (q : Parts). watcher_counts q slots (changing.changes slots e)) c.requires.parts
-    ∙ ap (watcher_counts p slots) (sym (changes_meets s e sort)) in
     record {
       parts = said.parts ∙ c.requires.parts;
       of = subst (g.N.Watcher.IsOf c.edit.new.watcher) c.requires.parts said.of;
@@ -78,5 +74,9 @@ returns g c =
           c.back-back.ensures.leads)
           c.back-back.ensures.slots c.back-back.ensures.list now c.keep.ensures.since;
       spare = c.keep.ensures.spare;
-      steps = subst (λ (n : ℕ). c.edit.new.steps ≤ c.args.steps.now + n) counts said.steps;
+      steps =
+          let taken = subst (λ (q : Parts). c.edit.new.steps + g.N.Watcher.owed c.edit.new.watcher q
+          ≤ c.args.steps.now + g.N.Watcher.owed c.args.listeners.now q
+          + watcher_counts q slots (changing.changes slots e)) c.requires.parts said.steps in
+          omega (arith, taken, ap (watcher_counts p slots) (changes_meets s e sort));
     }

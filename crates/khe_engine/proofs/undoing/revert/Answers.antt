@@ -1,7 +1,8 @@
-use Rattle.std.proofs.Common.{◌≡◌, true, false, sym, ◌∙◌, arith}
+use Rattle.std.proofs.Common.{◌≡◌, ◌≤◌, ◌+◌, true, false, ap, subst, sym, ◌∙◌, arith}
+use Rattle.khe_instance.specs.declared.parts.Parts.{Parts}
 use Rattle.khe_told.specs.Watchers.{watcher_counts}
 use Rattle.khe_solution.specs.Backs as backs
-use Rattle.khe_engine.specs.States.{state_of, is_back_of_groups, undone_changes}
+use Rattle.khe_engine.specs.States.{state_of, is_back_of_groups}
 use Rattle.khe_engine.proofs.StateLaws.{undone_groups, undone_meets, list_meets}
 use Rattle.khe_engine.proofs.undoing.revert.Goals as goal
 
@@ -24,10 +25,8 @@ pub returns-else-is_back_of_groups-clause-steps : goal.returns-else-is_back_of_g
 returns-else-is_back_of_groups-clause-steps g c =
     let s = state_of c.args.solution.now.slots (g.N.GraphWatcher.board c.args.listeners.now) in
     let sort : is_back_of_groups c.args.back ≡ false = sym c.is_back_of_groups.ensures ∙ c.if-is_back_of_groups.false in
-    let taken = c.undo.ensures.steps in
-    let same : watcher_counts c.args.solution.now.parts c.undo.new.self.slots
-    (backs.undone_changes c.args.solution.now.slots c.args.back)
-    ≡ watcher_counts c.args.inst.now c.undo.new.self.slots (undone_changes s c.args.back) =
-    λ i. watcher_counts (c.requires.parts i) c.undo.new.self.slots
-    (sym (list_meets s c.args.back sort) i) in
+    let taken = subst (λ (q : Parts). c.undo.new.steps + g.N.Watcher.owed c.undo.new.watcher q
+    ≤ c.args.steps.now + g.N.Watcher.owed c.args.listeners.now q + watcher_counts q c.undo.new.self.slots
+    (backs.undone_changes c.args.solution.now.slots c.args.back)) c.requires.parts c.undo.ensures.steps in
+    let same = ap (watcher_counts c.args.inst.now c.undo.new.self.slots) (list_meets s c.args.back sort) in
     omega (arith, taken, same)

@@ -20,8 +20,8 @@ invariant-loop-back g l =
       told : g.N.Watcher.told l.listeners ≡ l.solution.slots;
       marked : (g.N.GraphWatcher.board l.listeners).marked ≡ (g.N.GraphWatcher.board l.fn.listeners).marked;
       seats : (g.N.GraphWatcher.board l.listeners).seats ≡ (g.N.GraphWatcher.board l.fn.listeners).seats;
-      steps : l.steps + undo_cost p now (inner l.journal.since) ≤ l.fn.steps + undo_cost p then
-          (inner l.fn.journal.since);
+      steps : l.steps + g.N.Watcher.owed l.listeners p + undo_cost p now (inner l.journal.since)
+          ≤ l.fn.steps + g.N.Watcher.owed l.fn.listeners p + undo_cost p then (inner l.fn.journal.since);
     }
 
 abbrev pub decreases-loop-back : goal.decreases-loop-back

@@ -19,8 +19,9 @@ invariant-loop-solution g l =
       marked : (g.N.GraphWatcher.board l.listeners).marked ≡ (g.N.GraphWatcher.board l.fn.listeners).marked;
       seats : (g.N.GraphWatcher.board l.listeners).seats ≡ (g.N.GraphWatcher.board l.fn.listeners).seats;
       spare : l.fn.journal.spare + records l.fn.journal.since ≤ l.journal.spare + records l.journal.since;
-      steps : l.steps + trails_cost p (length l.journal.since + 1 - l.k)
-          (saved_of now l.journal.since) ≤ l.fn.steps + trails_cost p (length l.fn.journal.since + 1 - l.k)
+      steps : l.steps + g.N.Watcher.owed l.listeners p + trails_cost p (length l.journal.since + 1 - l.k)
+          (saved_of now l.journal.since)
+          ≤ l.fn.steps + g.N.Watcher.owed l.fn.listeners p + trails_cost p (length l.fn.journal.since + 1 - l.k)
           (saved_of then l.fn.journal.since);
     }
 

@@ -17,4 +17,4 @@ returns g c =
     is_run c.run_on.result seed size c.args.job.slots c.args.draws.now.state c.args.inst.now e.parts c.args.plain.now
     e.state c.in_ok-engine.ensures.parts c.in_ok-engine.ensures.state c.requires.job.counted c.requires.drawn
     (subst (λ (w : World). IfOk c.run_on.result
-    (λ t. t ≡ made_line seed size w.parts (course w.parts (started w.state) commands))) c.put_off.ensures c.run_on.ensures)
+    (λ t. t ≡ made_line seed size w.parts (course w.parts (started w.state) commands))) c.put_off.ensures.same c.run_on.ensures)

@@ -1,5 +1,5 @@
 -- Each line's answer leaves what is left and joins what was written or waits.
-use Rattle.std.proofs.Common.{◌+◌, ◌∙◌, [], arith, cond}
+use Rattle.std.proofs.Common.{◌+◌, ◌∙◌, [], ap, arith, cond, sym}
 use Rattle.std.specs.List.{list_all}
 use Rattle.edit_script.specs.Lines.{lines}
 use Rattle.khe_io.proofs.AmidLemmas.{always-err, amid-cut}
@@ -95,6 +95,12 @@ loop-line-preserved g c =
       few = omega (arith, c.in-Some.ensures.shorter, c.loop-line.invariant.few);
       faultless = c.in_ok-flush_long.ensures.faultless ∙ c.in_ok-play_line.ensures.faultless
           ∙ c.loop-line.invariant.faultless;
+      steps = λ counted.
+          let so_far = c.loop-line.invariant.steps counted in
+          let one = c.in_ok-play_line.ensures.spent more counted
+          (sym c.in_ok-play_line.ensures.read ∙ c.if-not-branch.false) in
+          let same = ap (g.P.Player.ahead c.loop-line.player) c.in-Some.ensures.lines in
+          omega (arith, so_far, one, same);
     }
 
 pub returns-in_err-flush-2-clause-front : goal.returns-in_err-flush-2-clause-front
@@ -120,3 +126,37 @@ returns-clause-whole g c =
     let last = no_line (answers c.loop-line.player n) before now c.loop-line.text whole (lines c.loop-line.rest.now)
     c.in_default.ensures.lines (g.met.P.Player.ends c.loop-line.player n) c.loop-line.invariant.amid in
     all_taken before now (g.K.Sink.taken c.flush-2.new.out) c.loop-line.text whole last c.in_ok-flush-2.ensures.taken
+
+pub returns-in_err-play_line-clause-steps : goal.returns-in_err-play_line-clause-steps
+returns-in_err-play_line-clause-steps g c = λ counted.
+    let so_far = c.loop-line.invariant.steps counted in
+    let one = c.play_line.ensures.steps (lines c.in-Some.after.now) counted in
+    let same = ap (g.P.Player.ahead c.loop-line.player) c.in-Some.ensures.lines in
+    omega (arith, so_far, one, same)
+
+pub returns-in_err-flush-clause-steps : goal.returns-in_err-flush-clause-steps
+returns-in_err-flush-clause-steps g c = λ counted.
+    let so_far = c.loop-line.invariant.steps counted in
+    let one = c.play_line.ensures.steps (lines c.in-Some.after.now) counted in
+    let same = ap (g.P.Player.ahead c.loop-line.player) c.in-Some.ensures.lines in
+    omega (arith, so_far, one, same)
+
+pub returns-then-not-branch-clause-steps : goal.returns-then-not-branch-clause-steps
+returns-then-not-branch-clause-steps g c = λ counted.
+    let so_far = c.loop-line.invariant.steps counted in
+    let one = c.play_line.ensures.steps (lines c.in-Some.after.now) counted in
+    let same = ap (g.P.Player.ahead c.loop-line.player) c.in-Some.ensures.lines in
+    omega (arith, so_far, one, same)
+
+pub returns-in_err-flush_long-clause-steps : goal.returns-in_err-flush_long-clause-steps
+returns-in_err-flush_long-clause-steps g c = λ counted.
+    let so_far = c.loop-line.invariant.steps counted in
+    let one = c.play_line.ensures.steps (lines c.in-Some.after.now) counted in
+    let same = ap (g.P.Player.ahead c.loop-line.player) c.in-Some.ensures.lines in
+    omega (arith, so_far, one, same)
+
+pub returns-in_err-flush-2-clause-steps : goal.returns-in_err-flush-2-clause-steps
+returns-in_err-flush-2-clause-steps g c = λ counted. let so_far = c.loop-line.invariant.steps counted in omega (arith, so_far)
+
+pub returns-clause-steps : goal.returns-clause-steps
+returns-clause-steps g c = λ counted. let so_far = c.loop-line.invariant.steps counted in omega (arith, so_far)

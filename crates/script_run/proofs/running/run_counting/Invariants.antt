@@ -1,5 +1,5 @@
 -- What was written, what waits, and the answers to the lines that are left are the whole text.
-use Rattle.std.proofs.Common.{◌≡◌, ◌≤◌, ◌+◌, length}
+use Rattle.std.proofs.Common.{◌≡◌, ◌≤◌, ◌+◌, true, length}
 use Rattle.std.specs.List.{list_all}
 use Rattle.edit_script.specs.Lines.{lines}
 use Rattle.khe_io.specs.Amid.{IsAmid}
@@ -12,6 +12,9 @@ invariant-loop-line g l = record {
   read : list_all g.P.Player.reads (lines l.rest) ≡ list_all g.P.Player.reads (lines l.script);
   few : l.number + length l.rest ≤ length l.script;
   faultless : g.K.Sink.faults l.out ≡ g.K.Sink.faults l.fn.out;
+  steps : g.P.Player.is_counted ≡ true
+      → l.steps + g.P.Player.owed l.player + g.P.Player.ahead l.player (lines l.rest)
+      ≤ l.fn.steps + g.P.Player.owed l.fn.player + g.P.Player.ahead l.fn.player (lines l.script);
 }
 
 abbrev pub decreases-loop-line : goal.decreases-loop-line

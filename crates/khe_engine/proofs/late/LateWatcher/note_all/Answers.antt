@@ -1,7 +1,8 @@
-use Rattle.std.proofs.Common.{◌≡◌, ap, subst, sym, ◌∙◌}
+use Rattle.std.proofs.Common.{◌≡◌, ap, arith, subst, sym, ◌∙◌}
 use Rattle.khe_told.proofs.SlotLaws.{told_after}
 use Rattle.khe_told.specs.Changes.{after_all}
 use Rattle.khe_told.specs.Fits.{AllFit, AreTold}
+use Rattle.khe_told.specs.Watchers.{watcher_counts}
 use Rattle.khe_engine.proofs.LateLaws.{roomier}
 use Rattle.khe_engine.proofs.late.LateWatcher.note_all.Goals as goal
 
@@ -24,3 +25,12 @@ returns-clause-of g c =
       },
       roomier p _ _ c.requires.of.2 u.room,
     )
+
+pub returns-clause-steps : goal.returns-clause-steps
+returns-clause-steps g c =
+    let p = c.args.inst.now in
+    let first = c.catch_up.ensures.steps in
+    let then = c.follow.ensures.steps in
+    let there = ap (λ x. watcher_counts p x c.args.changes.now) c.catch_up.ensures.told in
+    let none = ap (watcher_counts p (g.F.Family.told c.follow.new.listeners.families)) c.catch_up.ensures.none in
+    omega (arith, first, then, there, none)
