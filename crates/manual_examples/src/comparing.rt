@@ -1,7 +1,7 @@
 //! What the manual shows beside what comes.
 
 use crate::examples::{Example, example_of, is_shown};
-use crate::playing::{came_of, refusal_of};
+use crate::playing::{came_of, make_file, refusal_of};
 use khe_base::Text;
 use std::alloc::Global;
 use std::fs;
@@ -61,8 +61,8 @@ fn compare_blocks<R: Threads + Files + Print + Alloc + Sync>(
     }
 }
 
-/// Compares a block with what comes of its commands. A block without commands after the name of a file in a
-/// paragraph that ends with a colon shows that file.
+/// Compares a block with what comes of its commands, and makes the files that it shows. A block without commands after
+/// the name of a file in a paragraph that ends with a colon shows that file.
 fn compare_block<R: Threads + Files + Print + Alloc + Sync>(
     rt: &R,
     alloc: Global,
@@ -92,15 +92,21 @@ fn compare_file<R: Files + Print + Alloc>(rt: &R, tally: &mut Tally, file: &str,
     }
 }
 
-/// Compares an example with what comes of its command.
+/// Compares an example with what comes of its command. A file that is shown is made, and nothing is compared.
 fn compare_example<R: Threads + Files + Print + Sync>(
     rt: &R,
     alloc: Global,
     tally: &mut Tally,
     example: Example<'_>,
 ) {
+    if let Some(name) = example.command.strip_prefix("cat ") {
+        if make_file(rt, alloc, name, example.shown).is_err() {
+            note_unrun(rt, tally, name);
+        }
+        return;
+    }
     let mut came = Text::new(alloc);
-    match came_of(rt, alloc, example, &mut came) {
+    match came_of(rt, alloc, example.command, &mut came) {
         Ok(()) => note(rt, tally, example.command, came.as_str(), example.shown),
         Err(_) => note_unrun(rt, tally, example.command),
     }

@@ -1,7 +1,6 @@
 //! Command lines of a document, as far as documents use them: `khe` with its words, perhaps only the first
-//! or the last lines of it, or to a file; the status; a file that is shown, or made by `printf`.
+//! or the last lines of it, or to a file; the status; a file that is made by `printf`. And the files that documents show.
 
-use crate::examples::Example;
 use crate::faults::Fault;
 use khe_app::khe;
 use khe_base::{NoMemory, Seq, Text};
@@ -18,16 +17,16 @@ pub(crate) const ROOM: u64 = 1_000_000;
 pub(crate) fn came_of<R: Threads + Files + Sync>(
     rt: &R,
     alloc: Global,
-    example: Example<'_>,
+    line: &str,
     came: &mut Text,
 ) -> Result<(), Fault> {
     let mut status = 0u8;
-    for step in example.command.split("; ") {
+    for step in line.split("; ") {
         if step == "echo $?" {
             came.push_number(u128::from(status))?;
             came.push_literal("\n")?;
         } else {
-            status = play_step(rt, alloc, step, example.shown, came)?;
+            status = play_step(rt, alloc, step, came)?;
         }
     }
     Ok(())
@@ -38,12 +37,8 @@ fn play_step<R: Threads + Files + Sync>(
     rt: &R,
     alloc: Global,
     step: &str,
-    shown: &str,
     came: &mut Text,
 ) -> Result<u8, Fault> {
-    if let Some(name) = step.strip_prefix("cat ") {
-        return show_file(rt, name, shown, came);
-    }
     if let Some(made) = step.strip_prefix("printf '") {
         if let Some((text, name)) = made.split_once("' > ") {
             fs::write(rt, name, text)?;
@@ -57,11 +52,17 @@ fn play_step<R: Threads + Files + Sync>(
 }
 
 /// Makes a file of the lines that are shown of it.
-fn show_file<R: Files>(rt: &R, name: &str, shown: &str, came: &mut Text) -> Result<u8, Fault> {
-    came.push_str(shown)?;
-    came.push_literal("\n")?;
-    fs::write(rt, name, came.as_str())?;
-    Ok(0)
+pub(crate) fn make_file<R: Files>(
+    rt: &R,
+    alloc: Global,
+    name: &str,
+    shown: &str,
+) -> Result<(), Fault> {
+    let mut text = Text::new(alloc);
+    text.push_str(shown)?;
+    text.push_literal("\n")?;
+    fs::write(rt, name, text.as_str())?;
+    Ok(())
 }
 
 /// Runs `khe` with the words of a command, and adds what it writes, or its first or last lines where the command
