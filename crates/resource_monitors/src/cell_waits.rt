@@ -104,7 +104,9 @@ fn add_one<W: Waits>(
     }
 }
 
-/// Lets each monitor of a list wait that lists one of the times and may measure another value.
+/// Lets each monitor of a list wait that lists one of the times and may measure another value. The list's last comes
+/// first: an instance mostly has its rule on clashes before the others at resources, and what came last is measured
+/// first.
 fn add_due<W: Waits>(
     inst: &Instance,
     sets: &TimeSets,
@@ -123,8 +125,10 @@ fn add_due<W: Waits>(
         (W.waits waits.new) }
 {
     inst.facts();
-    for post in list {
-        add_one(inst, sets, start, end, low, *post, waits);
+    let mut place = list.len();
+    while place > 0 {
+        place -= 1;
+        add_one(inst, sets, start, end, low, list[place], waits);
     }
 }
 
