@@ -1,6 +1,7 @@
 #!/usr/bin/env bash
 # Checks the pages of `khe-page` in a real browser without a screen, and prints a line for each page. It installs what
-# it needs from Debian's packages, and ends with status 1 where something is not as it should be.
+# it needs from Debian's packages, and ends with status 1 where something is not as it should be. KHE and KHE_PAGE name
+# other programs than the ones at the top.
 #
 #     checks/page.sh                 the pages of examples/, of `khe make 7 300` and of an archive with names like markup
 #     checks/page.sh --pictures      the same, and the manual's pictures docs/page_*.png anew
@@ -10,13 +11,14 @@ work=$(mktemp -d)
 trap 'rm -rf "$work"' EXIT
 python=/usr/bin/python3
 export KHE_BUILD=${KHE_BUILD:-off}
+KHE=${KHE:-$top/khe} KHE_PAGE=${KHE_PAGE:-$top/khe-page}
 
 have() { command -v chromium && command -v chromedriver && "$python" -c 'import selenium'; }
 have > /dev/null 2>&1 || { apt-get update && DEBIAN_FRONTEND=noninteractive apt-get install -y --no-install-recommends \
   chromium chromium-driver python3-selenium; } > "$work/install" 2>&1
 have > /dev/null 2>&1 || { tail -5 "$work/install"; echo "checks/page.sh: chromium, its driver and python3-selenium could not be installed"; exit 1; }
 
-"$top/khe" make 7 300 > "$work/made.xml" || exit 1
+"$KHE" make 7 300 > "$work/made.xml" || exit 1
 cat > "$work/markup.xml" <<'END_OF_ARCHIVE'
 <?xml version="1.0" encoding="UTF-8"?>
 <HighSchoolTimetableArchive Id="&lt;script&gt;document.title='seized'&lt;/script&gt;">
@@ -35,7 +37,7 @@ END_OF_ARCHIVE
 failed=0
 check() {
   local name=$1 archive=$2
-  "$top/khe-page" "$archive" > "$work/$name.html" && "$top/khe" evaluate "$archive" > "$work/$name.txt" \
+  "$KHE_PAGE" "$archive" > "$work/$name.html" && "$KHE" evaluate "$archive" > "$work/$name.txt" \
     && "$python" "$top/checks/page.py" "$name" "$archive" "$work/$name.html" "$work/$name.txt" "${@:3}" || failed=1
 }
 pictures=()
@@ -48,7 +50,7 @@ check made "$work/made.xml"
 check markup "$work/markup.xml"
 
 # What is no page: words without a reading, a file that is not there, and an archive that is refused.
-status_of() { "$top/khe-page" "${@:2}" > "$work/out" 2> "$work/err"; [ $? = "$1" ] || { echo "status of $*"; failed=1; }; }
+status_of() { "$KHE_PAGE" "${@:2}" > "$work/out" 2> "$work/err"; [ $? = "$1" ] || { echo "status of $*"; failed=1; }; }
 status_of 2
 [ ! -s "$work/out" ] || { echo 'words without a reading wrote something'; failed=1; }
 status_of 2 "$work/made.xml" --solutions
