@@ -64,6 +64,13 @@ def check_costs(driver, expected):
             sums[row[2]] += int(row[5])
         wants((sums['hard'], sums['soft']) == solution['totals'], f'the rows of solution {number} come to {sums}')
         wants(sum(int(row[4]) for row in rows) == len(solution['monitors']), f'deviating monitors of {number}')
+        kinds = driver.execute_script(
+            'return Array.from(document.querySelectorAll(arguments[0])).map(r => '
+            'Array.from(r.cells).map(c => c.textContent))', f'#s{number} table.costs tbody tr:not([id]):not(.why)')
+        wants(len(kinds) == 16, f'{len(kinds)} kinds of solution {number}')
+        wants(tuple(sum(int(row[place]) for row in kinds) for place in (4, 5)) == solution['totals'],
+              f'the kinds of solution {number} do not come to its totals')
+        wants(sum(int(row[2]) for row in kinds) == len(solution['monitors']), f'deviating monitors by kind of {number}')
         listed = driver.execute_script(
             'return Array.from(document.querySelectorAll(arguments[0])).map(l => '
             '[l.id, l.querySelector("b").textContent])', f'#s{number} .why li[id]')
@@ -72,7 +79,7 @@ def check_costs(driver, expected):
 
 
 def check_grids(driver, expected):
-    """Each resource has a place, and each grid a cell for each time of the instance."""
+    """Each resource has a place, and its grids a cell for each time of the instance, beside the time's row and day."""
     root = tree.parse(archive).getroot()
     instances = {i.get('Id'): i for i in root.findall('Instances/Instance')}
     raws = root.findall('SolutionGroups/SolutionGroup/Solution')
@@ -85,10 +92,17 @@ def check_grids(driver, expected):
         resources = len(instance.findall('Resources/Resource'))
         places, cells = driver.execute_script(
             'const s = document.getElementById("s" + arguments[0]);'
-            'return [s.querySelectorAll(".one").length, Array.from(s.querySelectorAll("table.grid")).map('
-            'g => g.querySelectorAll("tbody td:not(.none)").length)]', number)
+            'const with_grids = Array.from(s.querySelectorAll(".one")).filter(o => o.querySelector("table.grid"));'
+            'return [s.querySelectorAll(".one").length, with_grids.map('
+            'o => o.querySelectorAll("table.grid tbody td[title]").length)]', number)
         wants(places == resources, f'{places} places for {resources} resources of solution {number}')
         wants(all(count == times for count in cells), f'cells of solution {number}: {set(cells)}, not {times}')
+        wrong = driver.execute_script(
+            'return Array.from(document.querySelectorAll(`#s${arguments[0]} table.grid tbody tr`)).flatMap(r => {'
+            'const head = r.querySelector("th"); if (!head || /^[0-9]+$/.test(head.textContent)) return [];'
+            'return Array.from(r.querySelectorAll("td[title]:not([rowspan])")).map(c => c.title).filter('
+            't => !t.endsWith(head.textContent))})', number)
+        wants(not wrong, f'times in a row that is called otherwise: {wrong[:3]}')
         events = driver.execute_script(
             'return document.querySelectorAll("#s" + arguments[0] + " table.events tbody tr").length', number)
         wants(events == len(instance.findall('Events/Event')), f'events of solution {number}')
@@ -110,12 +124,30 @@ def check_links(driver):
         driver.execute_script('arguments[0].click()', cells[0])
         cell = driver.find_element(By.ID, goal)
         wants(cell.is_displayed(), 'a cell that a link leads to is not shown')
-        cell.find_element(By.CSS_SELECTOR, 'a.mark').click()
-        wants(driver.current_url.endswith('#' + goal.split('t')[0]), 'the way back from a cell')
+        mark = cell.find_element(By.CSS_SELECTOR, 'a.mark')
+        led = mark.get_attribute('href').split('#')[1]
+        mark.click()
+        wants(driver.find_element(By.ID, led).is_displayed(), 'the monitor that a mark leads to is not shown')
         back = driver.find_element(By.CSS_SELECTOR, f"#{goal.split('t')[0]} p a")
         driver.execute_script('arguments[0].click()', back)
         monitor = driver.find_element(By.ID, back.get_attribute('href').split('#')[1])
         wants(monitor.is_displayed(), 'a monitor that a link leads to is not shown')
+
+
+def check_marks(driver, expected):
+    """Each mark of a defect leads to a monitor that deviates and names the cell; without one nothing is in red."""
+    for number, solution in enumerate(expected):
+        marks = driver.execute_script(
+            'return Array.from(document.querySelectorAll(arguments[0])).map(a => [a.closest("td").id, a.hash])',
+            f'#s{number} a.mark')
+        for cell, led in marks:
+            named = driver.execute_script(
+                'return !!document.querySelector(arguments[0])', f'.why li{led} a[href="#{cell}"]')
+            wants(named or len(solution['monitors']) > 40, f'the mark of {cell} leads to {led}, which does not name it')
+        if 'totals' in solution and not solution['monitors']:
+            red = driver.execute_script(
+                'return document.querySelectorAll(arguments[0]).length', f'#s{number} :is(.bad, .idle, .mark)')
+            wants(red == 0, f'{red} marks of defects in solution {number}, of which no monitor deviates')
 
 
 def check_search(driver):
@@ -205,6 +237,7 @@ try:
     check_costs(driver, expected)
     check_grids(driver, expected)
     check_links(driver)
+    check_marks(driver, expected)
     check_search(driver)
     check_sorting(driver)
     check_escapes(driver)

@@ -3,7 +3,8 @@
 # it needs from Debian's packages, and ends with status 1 where something is not as it should be. KHE and KHE_PAGE name
 # other programs than the ones at the top.
 #
-#     checks/page.sh                 the pages of examples/, of `khe make 7 300` and of an archive with names like markup
+#     checks/page.sh                 the pages of examples/, of `khe make 7 300`, of an archive with names like markup,
+#                                    and of one of two weeks of which no monitor deviates
 #     checks/page.sh --pictures      the same, and the manual's pictures docs/page_*.png anew
 set -u
 top=$(cd "$(dirname "$0")/.." && pwd)
@@ -48,6 +49,7 @@ for archive in "$top"/examples/*.xml; do
 done
 check made "$work/made.xml"
 check markup "$work/markup.xml"
+check weeks "$top/crates/manual_examples/data/pages/weeks.xml"
 
 # What is no page: words without a reading, a file that is not there, and an archive that is refused.
 status_of() { "$KHE_PAGE" "${@:2}" > "$work/out" 2> "$work/err"; [ $? = "$1" ] || { echo "status of $*"; failed=1; }; }

@@ -38,6 +38,8 @@ PHRASES = {
     "LimitBusyTimes": "is too busy or not busy enough in time groups, by",
     "LimitWorkload": "has too much or too little to do, by",
 }
+# What the format calls the kinds of constraints, in its order.
+KINDS = {kind: re.sub("([a-z])([A-Z])", r"\1 \2", kind) for kind in PHRASES}
 WITH_CELLS = ("AvoidClashes", "AvoidUnavailableTimes", "LimitIdleTimes")
 ESCAPED = {ord(sign): word for sign, word in {"&": "&amp;", "<": "&lt;", ">": "&gt;", '"': "&quot;", "'": "&#39;"}.items()}
 # Characters that turn the direction of the text around them are shown by their numbers.
@@ -93,6 +95,8 @@ class Constraint:
     def __init__(self, element, instance):
         self.id, self.name = element.get("Id"), shown(element)
         self.kind = element.tag.removesuffix("Constraint")
+        called_otherwise = element.findtext("Name") not in ("", None, self.id)
+        self.whole_name = self.name + " <small>%s</small>" % isolated(self.id) if called_otherwise else self.name
         self.counts = "hard" if element.findtext("Required").strip() == "true" else "soft"
         self.weight = "%d %s" % (int(element.findtext("Weight")), element.findtext("CostFunction").strip().lower())
         self.groups = [instance.times_of(group) for group in references(element, "TimeGroups/TimeGroup")]
@@ -111,7 +115,7 @@ class Instance:
         self.constraints = [Constraint(one, self) for one in root.findall("Constraints/*")]
         self.constraint = {one.id: one for one in self.constraints}
         self.places = [self.places_of(event) for event in self.events.elements]
-        self.columns, self.grouped = self.layout(Numbered(root.findall("Times/TimeGroups/*")))
+        self.weekly, self.sheets = self.layout(Numbered(root.findall("Times/TimeGroups/*")))
 
     def times_of(self, group):
         """The times of a time group: those whose week, day or time group it is."""
@@ -130,14 +134,54 @@ class Instance:
         return places
 
     def layout(self, groups):
-        """The columns of the grids, each with its head: by days, by weeks, or one for each time."""
-        for sort in ("Day", "Week"):
-            of = [(references(time, sort) or [None])[0] for time in self.times.elements]
-            if any(of):
-                heads = [*zip(groups.number, groups.names), (None, "other times")]
-                columns = [(name, [number for number, one in enumerate(of) if one == head]) for head, name in heads]
-                return [column for column in columns if column[1]], True
-        return [(name, [number]) for number, name in enumerate(self.times.names)], False
+        """Whether there is a grid for each week, and the grids: each a heading, its columns with their heads and times,
+        the times that have a column of their own, and its rows."""
+        day, week = ([(references(time, sort) or [None])[0] for time in self.times.elements] for sort in ("Day", "Week"))
+        weekly = any(day) and any(week)
+        of = day if any(day) else week
+        sheets = []
+        for head in [*groups.number, None] if weekly else [None]:
+            here = [time for time in range(len(of)) if not weekly or week[time] == head]
+            own = [time for time in here if of[time] is None or (weekly and head is None)]
+            lists = [(group, [time for time in here if of[time] == group and time not in own]) for group in groups.number]
+            columns = [(groups.names[groups.number[group]], times) for group, times in lists if times]
+            called = "Times without a week" if head is None else groups.names[groups.number[head]]
+            if here:
+                sheets.append((called, columns, own, self.rows_of([times for _, times in columns])))
+        return weekly, sheets
+
+    def rows_of(self, columns):
+        """The rows of a grid: what each is called, and its time in each column or None."""
+        named = [[one.findtext("Name") or one.get("Id") for one in map(self.times.elements.__getitem__, times)] for times in columns]
+        common = [os.path.commonprefix([name.encode() for name in names]).count(b" ") for names in named]
+        least = min((words for words, names in zip(common, named) if len(names) > 1), default=0)
+        rests = []
+        for words, names in zip(common, named):
+            words = words if len(names) > 1 else least
+            rests.append([name.split(" ", words)[words] if name.count(" ") >= words else name for name in names])
+        order = merged(rests)
+        every = sum(rests, [])
+        if order is not None and every and (len(columns) == 1 or len(set(every)) < len(every)):
+            at = [dict(zip(names, times)) for names, times in zip(rests, columns)]
+            return [(isolated(rest), [one.get(rest) for one in at]) for rest in order]
+        height = max(map(len, columns), default=1)
+        return [(str(row + 1), [times[row] if row < len(times) else None for times in columns]) for row in range(height)]
+
+
+def merged(lists):
+    """The members of some lists in one order that keeps that of each list, or None where there is none. Of those that
+    can come next it takes the one that comes first in the first list that has one."""
+    if any(len(set(one)) < len(one) for one in lists):
+        return None
+    order, left = [], [list(one) for one in lists]
+    while any(left):
+        fronts = [one[0] for one in left if one]
+        free = [front for front in fronts if not any(front in one[1:] for one in left)]
+        if not free:
+            return None
+        order.append(free[0])
+        left = [one[1:] if one[:1] == free[:1] else one for one in left]
+    return order
 
 
 def meets_of(instance, solution):
@@ -162,10 +206,11 @@ def meets_of(instance, solution):
 class Monitor:
     """A line of the report on a monitor."""
 
-    FORM = r'monitor (\d+) (\w+) "([^"]*)" (\w+) "([^"]*)"(?: (?:role )?"([^"]*)")? deviation (\d+) (?:hard|soft) (\d+)'
+    FORM = r'monitor (\d+) (\w+) "([^"]*)" (\w+) "([^"]*)"(?: (?:role )?"([^"]*)")? deviation (\d+) (hard|soft) (\d+)'
 
     def __init__(self, line):
-        number, self.kind, constraint, self.point, subject, other, deviation, cost = re.fullmatch(self.FORM, line).groups()
+        words = re.fullmatch(self.FORM, line).groups()
+        number, self.kind, constraint, self.point, subject, other, deviation, self.counts, cost = words
         self.number, self.deviation, self.cost = int(number), int(deviation), int(cost)
         self.constraint, self.subject = html.unescape(constraint), html.unescape(subject)
         self.other = other and html.unescape(other)
@@ -242,6 +287,18 @@ class Section:
             said += "" if busy < 2 else " (twice)" if busy == 2 else " (%d times)" % busy
         return said
 
+    def kinds(self):
+        text = '<details open><summary>Costs by kind</summary><div class="wide"><table class="costs"><thead><tr>'
+        heads = ("Kind", "Monitors", "Deviate", "Sum of deviations", "Hard cost", "Soft cost")
+        text += "".join('<th scope="col">%s</th>' % head for head in heads) + "</tr></thead><tbody>\n"
+        for kind, called in KINDS.items():
+            monitors = [one for one in self.monitors if one.kind == kind]
+            numbers = [len(monitors), sum(one.deviation > 0 for one in monitors), sum(one.deviation for one in monitors)]
+            numbers += [sum(one.cost for one in monitors if one.counts == counts) for counts in ("hard", "soft")]
+            text += "<tr>" if numbers[1] else '<tr class="fine">'
+            text += '<th scope="row">%s</th>' % called + "".join('<td class="num">%d</td>' % one for one in numbers) + "</tr>\n"
+        return text + "</tbody></table></div></details>\n"
+
     def costs(self):
         text = '<details open><summary>Costs by constraint</summary><div class="wide"><table class="costs"><thead><tr>'
         heads = ("Kind", "Constraint", "Counts as", "Weight", "Deviate", "Cost")
@@ -249,8 +306,8 @@ class Section:
         deviating, fine = "", ""
         for number, constraint in enumerate(self.instance.constraints):
             found = [one for one in self.monitors if one.constraint == constraint.id and one.deviation > 0]
-            row = '<tr id="s%dc%d"><td>%s</td>' % (self.number, number, constraint.kind)
-            row += '<th scope="row">%s</th><td>%s</td>' % (constraint.name, constraint.counts)
+            row = '<tr id="s%dc%d"><td>%s</td>' % (self.number, number, KINDS[constraint.kind])
+            row += '<th scope="row">%s</th><td>%s</td>' % (constraint.whole_name, constraint.counts)
             row += '<td class="num">%s</td><td class="num">%d</td>' % (constraint.weight, len(found))
             row += '<td class="num">%d</td></tr>\n' % sum(one.cost for one in found)
             deviating += row + self.defects(sorted(found, key=lambda one: -one.cost)) if found else ""
@@ -264,41 +321,68 @@ class Section:
             text += "%s %d%s</li>\n" % (PHRASES[one.kind], one.deviation, self.where(one))
         return text + "</ul></details></td></tr>\n"
 
-    def cell(self, resource, time, closed, idle):
-        meets = self.cells[resource].get(time, [])
-        words = ["clash"] * (len(meets) > 1) + ["unavailable"] * (bool(meets) and time in closed)
-        words = words or ["idle"] * (time in idle)
-        text = '<td class="off">off' if time in closed else "<td>"
-        if words:
-            sort, place = "idle" if words == ["idle"] else "bad", "s%dr%d" % (self.number, resource)
-            text = '<td class="%s" id="%st%d"><a class="mark" href="#%s">%s</a>' % (sort, place, time, place, ", ".join(words))
+    def marks(self, resource, time):
+        """The marks of a cell: of each sort of defect the first monitor that deviates and is about the time."""
+        busy = len(self.cells[resource].get(time, ()))
+        sorts = (
+            ("clash", lambda one: one.kind == "AvoidClashes" and busy > 1),
+            ("unavailable", lambda one: busy > 0 and time in self.closed(one)),
+            ("idle", lambda one: time in self.idle(one)),
+        )
+        deviating = [one for one in self.watched[resource] if one.deviation > 0]
+        found = [(word, next(filter(is_about, deviating), None)) for word, is_about in sorts]
+        return [(word, monitor.number) for word, monitor in found if monitor]
+
+    def cell(self, resource, time, closed, idle, height=1):
+        meets, marks = self.cells[resource].get(time, []), self.marks(resource, time)
+        words = [word for word, _ in marks]
+        quiet = "off" if time in closed and not meets else "gap" if time in idle else ""
+        name = self.instance.times.elements[time].findtext("Name") or self.instance.times.elements[time].get("Id")
+        text = "<td" + (' rowspan="%d"' % height if height > 1 else "") + ' title="%s"' % escaped(name)
+        if marks:
+            text += ' class="%s" id="s%dr%dt%d">' % ("idle" if words == ["idle"] else "bad", self.number, resource, time)
+        else:
+            text += ' class="%s">%s' % (quiet, quiet) if quiet else ">"
+        shown_marks = ['<a class="mark" href="#s%dm%d">%s</a>' % (self.number, number, word) for word, number in marks]
+        if len(meets) > 1 and "clash" not in words:
+            shown_marks.insert(0, '<span class="more">%d meets</span>' % len(meets))
+        text += "".join(shown_marks)
         for meet in meets:
             others = [" " + self.resource(other) for other in meet.given if other not in (None, resource)]
             text += "<div>%s%s</div>" % (self.event(meet.event), "".join(others))
         return text + "</td>"
 
     def grid(self, resource):
-        name, watched, columns = self.instance.resources.names[resource], self.watched[resource], self.instance.columns
+        name, watched = self.instance.resources.names[resource], self.watched[resource]
         text = '<div class="one" id="s%dr%d"><h4 class="n">%s</h4>\n' % (self.number, resource, name)
         links = [self.link("m", one.number, self.instance.constraint[one.constraint].name) for one in watched if one.deviation]
         text += "<p>Defects: %s</p>\n" % ", ".join(links) if links else ""
         if not self.cells[resource]:
             return text + '<p class="nothing">has no meets</p></div>\n'
         closed, idle = (set().union(*map(times, watched)) for times in (self.closed, self.idle))
-        corner = "<td></td>" if self.instance.grouped else ""
-        text += '<table class="grid"><caption>%s</caption><thead><tr>%s' % (name, corner)
-        text += "".join('<th scope="col">%s</th>' % head for head, _ in columns) + "</tr></thead><tbody>\n"
-        for row in range(max(len(times) for _, times in columns)):
-            text += "<tr>" + ('<th scope="row">%d</th>' % (row + 1) if self.instance.grouped else "")
-            for _, times in columns:
-                text += self.cell(resource, times[row], closed, idle) if row < len(times) else '<td class="none"></td>'
-            text += "</tr>\n"
-        return text + "</tbody></table></div>\n"
+        for called, columns, own, rows in self.instance.sheets:
+            text += '<p class="week">%s</p>\n' % called if self.instance.weekly else ""
+            text += '<table class="grid"><caption>%s' % name + (", " + called if self.instance.weekly else "")
+            text += "</caption><thead><tr>" + ("<td></td>" if columns else "")
+            heads = [head for head, _ in columns] + [self.instance.times.names[time] for time in own]
+            text += "".join('<th scope="col">%s</th>' % head for head in heads) + "</tr></thead><tbody>\n"
+            for place, (head, times) in enumerate(rows):
+                text += "<tr>" + ('<th scope="row">%s</th>' % head if columns else "")
+                for time in times:
+                    text += '<td class="none"></td>' if time is None else self.cell(resource, time, closed, idle)
+                for time in own if place == 0 else ():
+                    text += self.cell(resource, time, closed, idle, len(rows))
+                text += "</tr>\n"
+            text += "</tbody></table>\n"
+        return text + "</div>\n"
 
     def grids(self):
-        text = '<details open><summary>Timetables</summary>\n<p class="legend">Marks: <b>clash</b>, more than one meet at '
-        text += "the time; <b>unavailable</b>, a meet at a time to be kept free; <b>idle</b>, a gap between meets; <b>off</b>, "
-        text += "a time to be kept free.</p>\n"
+        text = '<details open><summary>Timetables</summary>\n<p class="legend">Marks of defects, each with a link to the '
+        text += "monitor that deviates: <b>clash</b>, more than one meet at the time; <b>unavailable</b>, a meet at a time "
+        text += "to be kept free; <b>idle</b>, a gap between meets. Where no monitor deviates: <b>2 meets</b> at one time; "
+        text += "<b>gap</b>, an idle time within the limits; <b>off</b>, a time to be kept free.</p>\n"
+        text += '<p class="legend">Rows are what is left of the names of a day\'s times without the words that all of them '
+        text += "begin with, or numbers where these can't be aligned. The title of a cell has the whole name of its time.</p>\n"
         for sort, name in zip(self.instance.types.elements, self.instance.types.names):
             text += "<h3>%s</h3>\n" % name
             for resource, of in enumerate(self.instance.type_of):
@@ -307,10 +391,10 @@ class Section:
 
     def part(self, meet):
         none = meet.start is None
-        text = '<div><strong class="bad">no time</strong>' if none else "<div><b>%s</b>" % self.instance.times.names[meet.start]
+        text = '<div><strong>no time</strong>' if none else "<div><b>%s</b>" % self.instance.times.names[meet.start]
         text += " for %d times:" % meet.duration if meet.duration > 1 else ":"
         for (role, _), resource in zip(self.instance.places[meet.event], meet.given):
-            nobody = ' <strong class="bad">%s</strong>' % ("no " + isolated(role) if role else "nobody")
+            nobody = ' <strong>%s</strong>' % ("no " + isolated(role) if role else "nobody")
             text += nobody if resource is None else " " + self.resource(resource)
         return text + "</div>"
 
@@ -339,7 +423,7 @@ def section_of(number, instance, group, solution, verdict):
         return text + '<p class="bad">%s</p></section>\n' % verdict.said
     section = Section(number, instance, solution, verdict)
     text += '<p class="totals">%s</p>\n' % verdict.said
-    return text + section.costs() + section.grids() + section.events() + "</section>\n"
+    return text + section.kinds() + section.costs() + section.grids() + section.events() + "</section>\n"
 
 
 def summary_of(archive, solutions):

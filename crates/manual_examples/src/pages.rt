@@ -32,6 +32,7 @@ const MADE: &[(&str, u8, u64, &str)] = &[
         ROOM,
         "pages/own_cells.html",
     ),
+    ("khe-page pages/weeks.xml", 0, ROOM, "pages/weeks.html"),
     (
         "khe-page examples/faults/02_bad_markup.xml",
         3,

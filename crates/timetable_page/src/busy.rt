@@ -192,12 +192,42 @@ fn cells_of(alloc: Global, times: u32, runs: &[Run]) -> Result<Seq<Seq<u32>>, No
     Ok(cells)
 }
 
+/// What the monitors of one kind say of a time of their resource.
+#[derive(Clone, Copy)]
+pub(crate) struct Said {
+    /// Whether a monitor is about the time, whether or not it deviates.
+    pub any: bool,
+    /// The first monitor about the time that deviates.
+    pub defect: Option<u32>,
+}
+
+/// What the monitors of a resource say of its times.
+#[derive(Drop)]
+pub(crate) struct Marks {
+    /// Of each time, whether the resource is to be free then.
+    pub closed: Vec<Said>,
+    /// Of each time, whether the resource is idle then.
+    pub idle: Vec<Said>,
+    /// The first monitor of clashes that deviates: it is about each time that has more than one meet.
+    pub clash: Option<u32>,
+}
+
+/// Adds that a monitor is about a time, with its number where it deviates.
+fn say(said: &mut Vec<Said>, time: usize, defect: Option<u32>) {
+    if time < said.len() {
+        let first = said[time].defect;
+        said[time] = Said {
+            any: true,
+            defect: first.or(defect),
+        };
+    }
+}
+
 /// Marks the times that a resource is to be free at.
-fn mark_closed(closed: &mut Vec<bool>, times: &IdSet) {
-    let marks = closed.as_mut_slice();
-    for time in 0..marks.len() {
+fn mark_closed(closed: &mut Vec<Said>, times: &IdSet, defect: Option<u32>) {
+    for time in 0..closed.len() {
         if u32::try_from(time).is_ok_and(|time| times.has(time)) {
-            marks[time] = true;
+            say(closed, time, defect);
         }
     }
 }
@@ -205,17 +235,18 @@ fn mark_closed(closed: &mut Vec<bool>, times: &IdSet) {
 /// Marks the idle times of a resource in a time group: it is not busy then, but before and after in the group.
 fn mark_idle(
     alloc: Global,
-    idle: &mut Vec<bool>,
+    idle: &mut Vec<Said>,
     group: &IdSet,
     cells: &Seq<Seq<u32>>,
+    defect: Option<u32>,
 ) -> Result<(), NoMemory> {
     let members = group.members(alloc)?;
-    mark_between(idle, members.as_slice(), cells);
+    mark_between(idle, members.as_slice(), cells, defect);
     Ok(())
 }
 
 /// Marks those of some times that have no meets, between the first and the last that have.
-fn mark_between(idle: &mut Vec<bool>, times: &[u32], cells: &Seq<Seq<u32>>) {
+fn mark_between(idle: &mut Vec<Said>, times: &[u32], cells: &Seq<Seq<u32>>, defect: Option<u32>) {
     let busy = |time: &&u32| !list_at(cells, **time).is_empty();
     let Some(first) = times.iter().find(busy) else {
         return;
@@ -224,67 +255,80 @@ fn mark_between(idle: &mut Vec<bool>, times: &[u32], cells: &Seq<Seq<u32>>) {
         return;
     };
     for time in times {
-        let place = *time as usize;
-        if first < time && time < last && list_at(cells, *time).is_empty() && place < idle.len() {
-            idle[place] = true;
+        if first < time && time < last && list_at(cells, *time).is_empty() {
+            say(idle, *time as usize, defect);
         }
     }
 }
 
-/// The times at which a resource is to be free, and those at which it is idle.
-#[derive(Drop)]
-pub(crate) struct Marks {
-    pub closed: Vec<bool>,
-    pub idle: Vec<bool>,
-}
-
-/// What the constraints of a resource say of its times, by the numbers of its monitors.
+/// What the monitors of a resource say of its times, by their numbers.
 fn marks_of(
     alloc: Global,
     inst: &Instance,
     monitors: &[u32],
+    deviations: &[u64],
     cells: &Seq<Seq<u32>>,
 ) -> Result<Marks, NoMemory> {
-    let closed = vec![in alloc; false; cells.len()]?;
-    let idle = vec![in alloc; false; cells.len()]?;
-    let mut marks = Marks { closed, idle };
-    let marked = mark(alloc, &mut marks, inst, monitors, cells);
+    let nothing = Said {
+        any: false,
+        defect: None,
+    };
+    let closed = vec![in alloc; nothing; cells.len()]?;
+    let idle = vec![in alloc; nothing; cells.len()]?;
+    let mut marks = Marks {
+        closed,
+        idle,
+        clash: None,
+    };
+    let marked = mark(alloc, &mut marks, inst, monitors, deviations, cells);
     marked.and(Ok(marks))
 }
 
-/// Marks what the constraints of these monitors say.
+/// Marks what these monitors say.
 fn mark(
     alloc: Global,
     marks: &mut Marks,
     inst: &Instance,
     monitors: &[u32],
+    deviations: &[u64],
     cells: &Seq<Seq<u32>>,
 ) -> Result<(), NoMemory> {
     for number in monitors {
         if *number < inst.monitors() {
             let constraint = inst.monitor(MonitorId(*number)).constraint;
-            mark_by(alloc, marks, inst, constraint, cells)?;
+            let defect = defect_of(*number, deviations);
+            mark_by(alloc, marks, inst, constraint, defect, cells)?;
         }
     }
     Ok(())
 }
 
-/// Marks what one constraint says of a resource's times.
+/// The number of a monitor, where it deviates.
+fn defect_of(number: u32, deviations: &[u64]) -> Option<u32> {
+    match deviations.get(number as usize) {
+        Some(deviation) if *deviation > 0 => Some(number),
+        _ => None,
+    }
+}
+
+/// Marks what a monitor of one constraint says of a resource's times.
 fn mark_by(
     alloc: Global,
     marks: &mut Marks,
     inst: &Instance,
     constraint: u32,
+    defect: Option<u32>,
     cells: &Seq<Seq<u32>>,
 ) -> Result<(), NoMemory> {
     if constraint >= inst.constraints() {
         return Ok(());
     }
     match &inst.constraint(constraint).rule {
-        Rule::AvoidUnavailableTimes { times } => mark_closed(&mut marks.closed, times),
+        Rule::AvoidClashes => marks.clash = marks.clash.or(defect),
+        Rule::AvoidUnavailableTimes { times } => mark_closed(&mut marks.closed, times, defect),
         Rule::LimitIdleTimes { groups, .. } => {
             for group in groups.as_slice() {
-                mark_idle(alloc, &mut marks.idle, group, cells)?;
+                mark_idle(alloc, &mut marks.idle, group, cells, defect)?;
             }
         }
         _ => {}
@@ -292,16 +336,29 @@ fn mark_by(
     Ok(())
 }
 
-/// The meets of a resource at each time, by their places, and what these monitors say of its times.
+/// The meets of a resource at each time, by their places, and what these monitors say of its times. A monitor deviates
+/// by its place among the deviations, and one without a place does not.
 pub(crate) fn marked_cells(
     alloc: Global,
     inst: &Instance,
     runs: &[Run],
     monitors: &[u32],
+    deviations: &[u64],
 ) -> Result<(Marks, Seq<Seq<u32>>), NoMemory> {
     let cells = cells_of(alloc, inst.times(), runs)?;
-    let marks = marks_of(alloc, inst, monitors, &cells);
+    let marks = marks_of(alloc, inst, monitors, deviations, &cells);
     beside(marks, cells)
+}
+
+/// What monitors of one kind say of a time.
+pub(crate) fn said_of(said: &[Said], time: u32) -> Said {
+    match said.get(time as usize) {
+        Some(said) => *said,
+        None => Said {
+            any: false,
+            defect: None,
+        },
+    }
 }
 
 /// The kind of a monitor that cares for when a resource is busy: its cells are listed with it.

@@ -3,7 +3,7 @@
 ghost use Rattle.std.specs.Prelude.{IsTrue};
 ghost use Rattle.khe_base.specs.Text.{is_ascii};
 
-use crate::busy::{Marks, has_cells, list_at, marked_cells};
+use crate::busy::{Marks, has_cells, list_at, marked_cells, said_of};
 use crate::costs::Defect;
 use crate::draft::Draft;
 use crate::naming::{event_name, group_name, resource_name, time_name};
@@ -130,7 +130,7 @@ fn push_cells(
     resource: u32,
 ) {
     let runs = list_at(&view.table.runs, resource);
-    match marked_cells(alloc, view.inst, runs, &[number]) {
+    match marked_cells(alloc, view.inst, runs, &[number], &[]) {
         Ok((marks, cells)) => push_cell_links(page, view, kind, resource, &cells, &marks),
         Err(NoMemory) => page.refuse(),
     }
@@ -148,8 +148,8 @@ fn push_cell_links(
     let mut listed = 0u32;
     for time in 0..view.inst.times() {
         let busy = list_at(cells, time).len();
-        let closed = marks.closed.get(time as usize).copied().unwrap_or(false);
-        let idle = marks.idle.get(time as usize).copied().unwrap_or(false);
+        let closed = said_of(marks.closed.as_slice(), time).any;
+        let idle = said_of(marks.idle.as_slice(), time).any;
         if is_cell(kind, busy, closed, idle) {
             if listed >= LISTED_CELLS {
                 page.push_literal(" and at more times");

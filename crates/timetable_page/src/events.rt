@@ -15,8 +15,8 @@ fn push_given(page: &mut Draft, view: &View<'_>, meet: &Meet, place: u32, resour
         return;
     }
     match role_of(view, meet.event, place) {
-        Some(role) => page.push_named(" <strong class=\"bad\">no ", role, "</strong>"),
-        None => page.push_literal(" <strong class=\"bad\">nobody</strong>"),
+        Some(role) => page.push_named(" <strong>no ", role, "</strong>"),
+        None => page.push_literal(" <strong>nobody</strong>"),
     }
 }
 
@@ -27,7 +27,7 @@ fn push_part(page: &mut Draft, view: &View<'_>, number: u32) {
     };
     match meet.start {
         Some(time) => page.push_named("<div><b>", time_name(view.raw, time.0), "</b>"),
-        None => page.push_literal("<div><strong class=\"bad\">no time</strong>"),
+        None => page.push_literal("<div><strong>no time</strong>"),
     }
     if meet.duration > 1 {
         page.push_counted(" for ", u128::from(meet.duration), " times");

@@ -1,18 +1,30 @@
 //! The timetable of each resource, as a grid.
 
-use crate::busy::{Marks, list_at, marked_cells};
+use crate::busy::{Marks, list_at, marked_cells, said_of};
 use crate::defects::{push_event_link, push_resource_link};
 use crate::draft::Draft;
-use crate::layout::{Column, column_name, only_time};
-use crate::naming::{constraint_name, resource_name, type_name};
+use crate::layout::{Sheet, time_group_name};
+use crate::naming::{constraint_name, resource_name, time_name, type_name};
+use crate::rows::Row;
 use crate::view::View;
 use khe_base::{MonitorId, NoMemory, ResourceId, Seq};
 use std::alloc::Global;
 
 /// What the marks of cells mean, above the timetables of a solution.
 const LEGEND: &str =
-    "<p class=\"legend\">Marks: <b>clash</b>, more than one meet at the time; <b>unavailable</b>, a \
-meet at a time to be kept free; <b>idle</b>, a gap between meets; <b>off</b>, a time to be kept free.</p>\n";
+    "<p class=\"legend\">Marks of defects, each with a link to the monitor that deviates: <b>clash</b>, more than one \
+meet at the time; <b>unavailable</b>, a meet at a time to be kept free; <b>idle</b>, a gap between meets. Where no \
+monitor deviates: <b>2 meets</b> at one time; <b>gap</b>, an idle time within the limits; <b>off</b>, a time to be \
+kept free.</p>\n<p class=\"legend\">Rows are what is left of the names of a day's times without the words that all of \
+them begin with, or numbers where these can't be aligned. The title of a cell has the whole name of its time.</p>\n";
+
+/// The monitors that deviate at a cell, by what is wrong there.
+#[derive(Clone, Copy)]
+struct Wrong {
+    clash: Option<u32>,
+    unavailable: Option<u32>,
+    idle: Option<u32>,
+}
 
 /// Adds one meet of a cell: its event, and the other resources that it is given.
 fn push_meet(page: &mut Draft, view: &View<'_>, resource: u32, meet: u32) {
@@ -32,115 +44,154 @@ fn push_meet(page: &mut Draft, view: &View<'_>, resource: u32, meet: u32) {
     page.push_literal("</div>");
 }
 
-/// Adds the beginning of a cell with a mark: a word that says why, which leads to the resource's defects.
-fn push_marked(
-    page: &mut Draft,
-    view: &View<'_>,
-    resource: u32,
-    time: u32,
-    class: &str,
-    word: &str,
-) {
-    page.push_literal("<td class=\"");
+/// Which monitors deviate at a cell with so many meets.
+fn wrong_at(marks: &Marks, time: u32, busy: usize) -> Wrong {
+    let clash = if busy > 1 { marks.clash } else { None };
+    let closed = said_of(marks.closed.as_slice(), time).defect;
+    let unavailable = if busy > 0 { closed } else { None };
+    let idle = said_of(marks.idle.as_slice(), time).defect;
+    Wrong {
+        clash,
+        unavailable,
+        idle,
+    }
+}
+
+/// Adds the beginning of a cell that a defect leads to.
+fn push_defect_head(page: &mut Draft, view: &View<'_>, resource: u32, time: u32, class: &str) {
+    page.push_literal(" class=\"");
     page.push_str(class);
     page.push_place("\" id=\"s", view.number, "r", resource, "");
     page.push_counted("t", u128::from(time), "\">");
-    page.push_place(
-        "<a class=\"mark\" href=\"#s",
-        view.number,
-        "r",
-        resource,
-        "\">",
-    );
-    page.push_str(word);
-    page.push_literal("</a>");
 }
 
-/// Adds the beginning of a cell by what is the case then.
+/// Adds the mark of a monitor, where one deviates: a word that says what is wrong, which leads to it.
+fn push_mark(page: &mut Draft, view: &View<'_>, monitor: Option<u32>, word: &str) {
+    if let Some(monitor) = monitor {
+        page.push_place(
+            "<a class=\"mark\" href=\"#s",
+            view.number,
+            "m",
+            monitor,
+            "\">",
+        );
+        page.push_str(word);
+        page.push_literal("</a>");
+    }
+}
+
+/// Adds the beginning of a cell that no monitor which deviates is about.
+fn push_quiet_head(page: &mut Draft, marks: &Marks, time: u32, busy: usize) {
+    if busy == 0 && said_of(marks.closed.as_slice(), time).any {
+        page.push_literal(" class=\"off\">off");
+    } else if busy == 0 && said_of(marks.idle.as_slice(), time).any {
+        page.push_literal(" class=\"gap\">gap");
+    } else {
+        page.push_literal(">");
+    }
+}
+
+/// Adds the beginning of a cell with its marks: what monitors that deviate say of it, or else a quiet word.
 fn push_cell_head(
     page: &mut Draft,
     view: &View<'_>,
     resource: u32,
     time: u32,
     busy: usize,
-    closed: bool,
-    idle: bool,
-) {
-    if busy > 1 && closed {
-        push_marked(page, view, resource, time, "bad", "clash, unavailable");
-    } else if busy > 1 {
-        push_marked(page, view, resource, time, "bad", "clash");
-    } else if busy > 0 && closed {
-        push_marked(page, view, resource, time, "bad", "unavailable");
-    } else if idle {
-        push_marked(page, view, resource, time, "idle", "idle");
-    } else if closed {
-        page.push_literal("<td class=\"off\">off");
-    } else {
-        page.push_literal("<td>");
-    }
-}
-
-/// Adds the cell of a time.
-fn push_cell(
-    page: &mut Draft,
-    view: &View<'_>,
-    resource: u32,
-    time: u32,
-    meets: &[u32],
     marks: &Marks,
 ) {
-    let closed = marks.closed.get(time as usize).copied().unwrap_or(false);
-    let idle = marks.idle.get(time as usize).copied().unwrap_or(false);
-    push_cell_head(page, view, resource, time, meets.len(), closed, idle);
+    let wrong = wrong_at(marks, time, busy);
+    if wrong.clash.is_some() || wrong.unavailable.is_some() {
+        push_defect_head(page, view, resource, time, "bad");
+    } else if wrong.idle.is_some() {
+        push_defect_head(page, view, resource, time, "idle");
+    } else {
+        push_quiet_head(page, marks, time, busy);
+    }
+    push_mark(page, view, wrong.clash, "clash");
+    if busy > 1 && wrong.clash.is_none() {
+        page.push_counted("<span class=\"more\">", busy as u128, " meets</span>");
+    }
+    push_mark(page, view, wrong.unavailable, "unavailable");
+    push_mark(page, view, wrong.idle, "idle");
+}
+
+/// What the cells of a resource's grids look up: its number, its meets at each time, and the marks of the times.
+#[derive(Clone, Copy)]
+struct Grid<'a> {
+    resource: u32,
+    cells: &'a Seq<Seq<u32>>,
+    marks: &'a Marks,
+}
+
+/// Adds the cell of a time, which is as high as so many rows.
+fn push_cell(page: &mut Draft, view: &View<'_>, grid: Grid<'_>, time: u32, rows: usize) {
+    let meets = list_at(grid.cells, time);
+    page.push_literal("<td");
+    if rows > 1 {
+        page.push_counted(" rowspan=\"", rows as u128, "\"");
+    }
+    page.push_between(" title=\"", time_name(view.raw, time), "\"");
+    push_cell_head(page, view, grid.resource, time, meets.len(), grid.marks);
     for meet in meets {
-        push_meet(page, view, resource, *meet);
+        push_meet(page, view, grid.resource, *meet);
     }
     page.push_literal("</td>");
 }
 
-/// Adds the head of a column.
-fn push_column_head(page: &mut Draft, view: &View<'_>, column: &Column) {
-    let name = if view.layout.grouped {
-        column_name(view.raw, column)
-    } else {
-        only_time(view.raw, column)
-    };
-    match name {
-        Some(name) => page.push_named("<th scope=\"col\">", name, "</th>"),
-        None => page.push_literal("<th scope=\"col\">other times</th>"),
-    }
-}
-
 /// Adds the heads of all columns.
-fn push_column_heads(page: &mut Draft, view: &View<'_>) {
+fn push_column_heads(page: &mut Draft, view: &View<'_>, sheet: &Sheet) {
     page.push_literal("<thead><tr>");
-    if view.layout.grouped {
+    if !sheet.columns.is_empty() {
         page.push_literal("<td></td>");
     }
-    for column in view.layout.columns.as_slice() {
-        push_column_head(page, view, column);
+    for column in sheet.columns.as_slice() {
+        page.push_literal("<th scope=\"col\">");
+        if let Some(name) = time_group_name(view.raw, column.group) {
+            page.push_named("", name, "");
+        }
+        page.push_literal("</th>");
+    }
+    for time in sheet.others.as_slice() {
+        page.push_named("<th scope=\"col\">", time_name(view.raw, *time), "</th>");
     }
     page.push_literal("</tr></thead><tbody>\n");
 }
 
-/// Adds one row of a grid.
+/// Adds the head of a row: what it is called, or its position.
+fn push_row_head(page: &mut Draft, row: &Row, position: usize) {
+    match &row.name {
+        Some(name) => page.push_named("<th scope=\"row\">", name, "</th>"),
+        None => page.push_counted(
+            "<th scope=\"row\">",
+            (position as u128).saturating_add(1),
+            "</th>",
+        ),
+    }
+}
+
+/// Adds one row of a grid. The times that have a column of their own stand beside the first, as high as all.
 fn push_row(
     page: &mut Draft,
     view: &View<'_>,
-    resource: u32,
-    row: usize,
-    cells: &Seq<Seq<u32>>,
-    marks: &Marks,
+    grid: Grid<'_>,
+    sheet: &Sheet,
+    row: &Row,
+    position: usize,
 ) {
     page.push_literal("<tr>");
-    if view.layout.grouped {
-        page.push_counted("<th scope=\"row\">", row as u128 + 1, "</th>");
+    if !sheet.columns.is_empty() {
+        push_row_head(page, row, position);
     }
-    for column in view.layout.columns.as_slice() {
-        match column.times.as_slice().get(row) {
-            Some(time) => push_cell(page, view, resource, *time, list_at(cells, *time), marks),
+    for time in row.times.as_slice() {
+        match time {
+            Some(time) => push_cell(page, view, grid, *time, 1),
             None => page.push_literal("<td class=\"none\"></td>"),
+        }
+    }
+    if position == 0 {
+        for time in sheet.others.as_slice() {
+            push_cell(page, view, grid, *time, sheet.rows.len());
         }
     }
     page.push_literal("</tr>\n");
@@ -185,30 +236,63 @@ fn push_grid(alloc: Global, page: &mut Draft, view: &View<'_>, resource: u32, de
         return;
     }
     let watched = list_at(&view.table.watched, resource);
-    match marked_cells(alloc, view.inst, runs, watched) {
-        Ok((marks, cells)) => push_table(page, view, resource, &cells, &marks),
+    match marked_cells(alloc, view.inst, runs, watched, deviations) {
+        Ok((marks, cells)) => push_tables(page, view, resource, &cells, &marks),
         Err(NoMemory) => page.refuse(),
     }
 }
 
-/// Adds the table of a resource that has meets, with the marks of the times.
-fn push_table(
+/// Adds the grids of a resource that has meets, with the marks of the times.
+fn push_tables(
     page: &mut Draft,
     view: &View<'_>,
     resource: u32,
     cells: &Seq<Seq<u32>>,
     marks: &Marks,
 ) {
+    let grid = Grid {
+        resource,
+        cells,
+        marks,
+    };
+    for sheet in view.layout.sheets.as_slice() {
+        push_table(page, view, grid, sheet);
+    }
+    page.push_literal("</div>\n");
+}
+
+/// Adds what a grid is called where there is one for each week: by its week, or as that of the other times.
+fn push_week(page: &mut Draft, view: &View<'_>, sheet: &Sheet) {
+    match sheet.week.and_then(|week| time_group_name(view.raw, week)) {
+        Some(week) => page.push_named("", week, ""),
+        None => page.push_literal("Times without a week"),
+    }
+}
+
+/// Adds one grid of a resource.
+fn push_table(page: &mut Draft, view: &View<'_>, grid: Grid<'_>, sheet: &Sheet) {
+    if view.layout.weekly {
+        page.push_literal("<p class=\"week\">");
+        push_week(page, view, sheet);
+        page.push_literal("</p>\n");
+    }
     page.push_named(
         "<table class=\"grid\"><caption>",
-        resource_name(view.raw, resource),
-        "</caption>",
+        resource_name(view.raw, grid.resource),
+        "",
     );
-    push_column_heads(page, view);
-    for row in 0..view.layout.height {
-        push_row(page, view, resource, row, cells, marks);
+    if view.layout.weekly {
+        page.push_literal(", ");
+        push_week(page, view, sheet);
     }
-    page.push_literal("</tbody></table></div>\n");
+    page.push_literal("</caption>");
+    push_column_heads(page, view, sheet);
+    let mut position = 0usize;
+    for row in sheet.rows.as_slice() {
+        push_row(page, view, grid, sheet, row, position);
+        position = position.saturating_add(1);
+    }
+    page.push_literal("</tbody></table>\n");
 }
 
 /// Adds the timetables of the resources of one type.

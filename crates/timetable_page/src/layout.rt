@@ -1,28 +1,38 @@
-//! How the times of an instance are laid out in the grids: a column for each day, or for each week where there are
-//! no days, or else one row of all times.
+//! How the times of an instance are laid out: a grid for each week, with a column for each day and a row for each time
+//! of day. Where times have no weeks there is one grid; where they have weeks and no days its columns are the weeks. A
+//! time without a day, or without a week where others have one, has a column of its own.
 
-use crate::naming::{shown, time_name};
-use khe_base::{NoMemory, Seq, Text, beside};
+use crate::busy::{add, empty_lists};
+use crate::naming::shown;
+use crate::rows::{Row, rows_of};
+use khe_base::{NoMemory, Seq, Text, beside, both};
 use std::alloc::Global;
 use xhstt_references::{Names, Seed};
 use xhstt_shape::{RawInstance, Ref, Time, TimeSort};
 
-/// A column of a grid: its head, and its times from the top.
+/// A column of a grid: the number of the time group that it is called after, and its times in their order.
 #[derive(Drop)]
 pub(crate) struct Column {
-    /// The number of the time group that it is called after, or none where it has the times of no group.
-    pub group: Option<u32>,
+    pub group: u32,
     pub times: Seq<u32>,
 }
 
-/// The columns of the grids of an instance.
+/// A grid: its columns and rows, and the times that have a column of their own.
+#[derive(Drop)]
+pub(crate) struct Sheet {
+    /// The number of the time group of its week, where it has the times of one.
+    pub week: Option<u32>,
+    pub columns: Seq<Column>,
+    pub others: Seq<u32>,
+    pub rows: Seq<Row>,
+}
+
+/// The grids of an instance.
 #[derive(Drop)]
 pub(crate) struct Layout {
-    pub columns: Seq<Column>,
-    /// Whether the columns are days or weeks. Else each has one time.
-    pub grouped: bool,
-    /// How many times the longest column has.
-    pub height: usize,
+    pub sheets: Seq<Sheet>,
+    /// Whether each grid but the last has the times of a week.
+    pub weekly: bool,
 }
 
 /// By which time groups columns are made.
@@ -34,6 +44,12 @@ fn sort_of_columns(raw: &RawInstance) -> Option<TimeSort> {
         return Some(TimeSort::Week);
     }
     None
+}
+
+/// Whether there is a grid for each week: times have days, and some have weeks.
+fn is_weekly(raw: &RawInstance) -> bool {
+    raw.times.as_slice().iter().any(|time| time.day.is_some())
+        && raw.times.as_slice().iter().any(|time| time.week.is_some())
 }
 
 /// The reference of a time to its day or its week.
@@ -57,137 +73,188 @@ fn group_names(alloc: Global, raw: &RawInstance) -> Result<Names, NoMemory> {
     Ok(names)
 }
 
-/// The given number of columns, empty, each called after the time group with its number, and a last one without a name.
-fn empty_columns(alloc: Global, groups: usize) -> Result<Seq<Column>, NoMemory> {
-    let mut columns = Seq::new(alloc);
-    for group in 0..groups {
-        columns.push(Column {
-            group: u32::try_from(group).ok(),
-            times: Seq::new(alloc),
+/// The number of the time group that is a time's day or week, and that of the last one and one more where it has none.
+fn group_of(raw: &RawInstance, names: &Names, time: u32, sort: TimeSort) -> u32 {
+    let none = u32::try_from(names.len()).unwrap_or(u32::MAX);
+    let Some(time) = raw.times.as_slice().get(time as usize) else {
+        return none;
+    };
+    match reference_of(time, sort) {
+        Some(reference) => match names.number(&reference.id) {
+            Some(group) => u32::try_from(group).unwrap_or(none),
+            None => none,
+        },
+        None => none,
+    }
+}
+
+/// The times of each time group that columns are made by, and last those of none.
+fn times_by_group(
+    alloc: Global,
+    raw: &RawInstance,
+    names: &Names,
+) -> Result<Seq<Seq<u32>>, NoMemory> {
+    let mut lists = empty_lists(alloc, names.len().saturating_add(1))?;
+    let none = u32::try_from(names.len()).unwrap_or(u32::MAX);
+    let sort = sort_of_columns(raw);
+    let mut time = 0u32;
+    for _ in raw.times.as_slice() {
+        let group = match sort {
+            Some(sort) => group_of(raw, names, time, sort),
+            None => none,
+        };
+        add(&mut lists, group, time)?;
+        time = time.saturating_add(1);
+    }
+    Ok(lists)
+}
+
+/// The given number of grids, empty, each of the week with its number.
+fn empty_sheets(alloc: Global, weeks: usize) -> Result<Seq<Sheet>, NoMemory> {
+    let mut sheets = Seq::new(alloc);
+    for week in 0..weeks {
+        sheets.push(Sheet {
+            week: u32::try_from(week).ok(),
+            columns: Seq::new(alloc),
+            others: Seq::new(alloc),
+            rows: Seq::new(alloc),
         })?;
     }
-    columns.push(Column {
-        group: None,
-        times: Seq::new(alloc),
+    sheets.push(Sheet {
+        week: None,
+        columns: Seq::new(alloc),
+        others: Seq::new(alloc),
+        rows: Seq::new(alloc),
     })?;
-    Ok(columns)
+    Ok(sheets)
 }
 
-/// Adds a time to a column, where there is one with the number.
-fn add(columns: &mut Seq<Column>, column: usize, time: u32) -> Result<(), NoMemory> {
-    if column < columns.len() {
-        columns.items[column].times.push(time)?;
-    }
-    Ok(())
-}
-
-/// The columns of all time groups with the times whose day or week they are.
-fn filled_columns(
+/// Adds a time to the column of a group, which is the last one or a new one.
+fn add_to_column(
     alloc: Global,
-    raw: &RawInstance,
-    sort: TimeSort,
-) -> Result<Seq<Column>, NoMemory> {
-    let names = group_names(alloc, raw)?;
-    let columns = columns_of(alloc, raw, &names, sort);
-    drop(names);
-    columns
-}
-
-/// The same with the names of the time groups.
-fn columns_of(
-    alloc: Global,
-    raw: &RawInstance,
-    names: &Names,
-    sort: TimeSort,
-) -> Result<Seq<Column>, NoMemory> {
-    let mut columns = empty_columns(alloc, names.len())?;
-    let filled = fill(&mut columns, raw, names, sort);
-    let ((), columns) = beside(filled, columns)?;
-    Ok(columns)
-}
-
-/// Adds each time to the column of its day or week.
-fn fill(
     columns: &mut Seq<Column>,
+    group: u32,
+    time: u32,
+) -> Result<(), NoMemory> {
+    let last = columns.len();
+    if last > 0 && columns.items[last - 1].group == group {
+        return columns.items[last - 1].times.push(time);
+    }
+    let mut times = Seq::new(alloc);
+    times.push(time)?;
+    columns.push(Column { group, times })
+}
+
+/// Adds a time of a group to the grid of its week, or of none: to the group's column, or to the times that have a
+/// column of their own.
+fn place(
+    alloc: Global,
+    sheets: &mut Seq<Sheet>,
+    week: usize,
+    group: Option<u32>,
+    time: u32,
+) -> Result<(), NoMemory> {
+    if week >= sheets.len() {
+        return Ok(());
+    }
+    match group {
+        Some(group) => add_to_column(alloc, &mut sheets.items[week].columns, group, time),
+        None => sheets.items[week].others.push(time),
+    }
+}
+
+/// Adds the times of one group to the grids.
+fn place_all(
+    alloc: Global,
+    sheets: &mut Seq<Sheet>,
     raw: &RawInstance,
     names: &Names,
-    sort: TimeSort,
+    group: u32,
+    times: &[u32],
 ) -> Result<(), NoMemory> {
-    let mut number = 0u32;
-    for time in raw.times.as_slice() {
-        let column = match reference_of(time, sort) {
-            Some(reference) => names.number(&reference.id).unwrap_or(names.len()),
-            None => names.len(),
+    let last = sheets.len().saturating_sub(1);
+    let weekly = last > 0;
+    for time in times {
+        let week = if weekly {
+            group_of(raw, names, *time, TimeSort::Week) as usize
+        } else {
+            last
         };
-        add(columns, column, number)?;
-        number = number.saturating_add(1);
+        let own = group as usize >= names.len() || weekly && week >= last;
+        let group = if own { None } else { Some(group) };
+        place(alloc, sheets, week, group, *time)?;
     }
     Ok(())
 }
 
-/// The columns that have a time.
-fn used(alloc: Global, columns: Seq<Column>) -> Result<Seq<Column>, NoMemory> {
+/// The grids with their columns.
+fn filled_sheets(alloc: Global, raw: &RawInstance, names: &Names) -> Result<Seq<Sheet>, NoMemory> {
+    let weeks = if is_weekly(raw) { names.len() } else { 0 };
+    let lists = times_by_group(alloc, raw, names);
+    let (lists, mut sheets) = both(lists, empty_sheets(alloc, weeks))?;
+    let filled = fill(alloc, &mut sheets, raw, names, &lists);
+    filled.and(Ok(sheets))
+}
+
+/// Adds the times of each group to the grids.
+fn fill(
+    alloc: Global,
+    sheets: &mut Seq<Sheet>,
+    raw: &RawInstance,
+    names: &Names,
+    lists: &Seq<Seq<u32>>,
+) -> Result<(), NoMemory> {
+    let mut group = 0u32;
+    for times in lists.as_slice() {
+        place_all(alloc, sheets, raw, names, group, times.as_slice())?;
+        group = group.saturating_add(1);
+    }
+    Ok(())
+}
+
+/// The grids that have times.
+fn used(alloc: Global, sheets: Seq<Sheet>) -> Result<Seq<Sheet>, NoMemory> {
     let mut kept = Seq::new(alloc);
-    for column in columns.items {
-        if !column.times.is_empty() {
-            kept.push(column)?;
+    for sheet in sheets.items {
+        if !sheet.columns.is_empty() || !sheet.others.is_empty() {
+            kept.push(sheet)?;
         }
     }
     Ok(kept)
 }
 
-/// A column for each time.
-fn single_columns(alloc: Global, times: usize) -> Result<Seq<Column>, NoMemory> {
-    let mut columns = Seq::new(alloc);
-    for time in 0..times {
-        let mut one = Seq::new(alloc);
-        one.push(u32::try_from(time).unwrap_or(u32::MAX))?;
-        columns.push(Column {
-            group: None,
-            times: one,
-        })?;
+/// Gives each grid its rows.
+fn add_rows(alloc: Global, sheets: &mut Seq<Sheet>, raw: &RawInstance) -> Result<(), NoMemory> {
+    for sheet in sheets.items.iter_mut() {
+        sheet.rows = rows_of(alloc, raw, sheet.columns.as_slice())?;
     }
-    Ok(columns)
+    Ok(())
 }
 
-/// How many times the longest column has.
-fn height_of(columns: &[Column]) -> usize {
-    let mut height = 0;
-    for column in columns {
-        height = height.max(column.times.len());
-    }
-    height
+/// The grids of an instance with its time groups.
+fn sheets_of(alloc: Global, raw: &RawInstance, names: &Names) -> Result<Seq<Sheet>, NoMemory> {
+    let mut sheets = used(alloc, filled_sheets(alloc, raw, names)?)?;
+    let added = add_rows(alloc, &mut sheets, raw);
+    added.and(Ok(sheets))
 }
 
-/// The layout of an instance's times. It takes time and memory in proportion to the times and the time groups.
+/// The layout of an instance's times. It takes time and memory in proportion to the times, the time groups, and the
+/// rows of the grids times their columns.
 pub(crate) fn layout_of(alloc: Global, raw: &RawInstance) -> Result<Layout, NoMemory> {
-    let (columns, grouped) = match sort_of_columns(raw) {
-        Some(sort) => (used(alloc, filled_columns(alloc, raw, sort)?)?, true),
-        None => (single_columns(alloc, raw.times.len())?, false),
-    };
-    let height = height_of(columns.as_slice());
+    let names = group_names(alloc, raw)?;
+    let sheets = sheets_of(alloc, raw, &names);
+    let (sheets, names) = beside(sheets, names)?;
+    drop(names);
     Ok(Layout {
-        columns,
-        grouped,
-        height,
+        sheets,
+        weekly: is_weekly(raw),
     })
 }
 
-/// What a column is called, or none where it has no name.
-pub(crate) fn column_name<'a>(raw: &'a RawInstance, column: &Column) -> Option<&'a Text> {
-    if let Some(group) = column.group {
-        return match raw.time_groups.as_slice().get(group as usize) {
-            Some(group) => Some(shown(&group.name, &group.id.text)),
-            None => None,
-        };
-    }
-    None
-}
-
-/// The name of the only time of a column.
-pub(crate) fn only_time<'a>(raw: &'a RawInstance, column: &Column) -> Option<&'a Text> {
-    match column.times.as_slice().first() {
-        Some(time) => Some(time_name(raw, *time)),
+/// What a time group is called, or none where there is none with the number.
+pub(crate) fn time_group_name(raw: &RawInstance, group: u32) -> Option<&Text> {
+    match raw.time_groups.as_slice().get(group as usize) {
+        Some(group) => Some(shown(&group.name, &group.id.text)),
         None => None,
     }
 }

@@ -9,6 +9,7 @@ mod draft;
 mod escaping;
 mod events;
 mod grids;
+mod kinds;
 #[allow(dead_code)]
 mod laws;
 mod layout;
@@ -19,6 +20,7 @@ mod outcomes;
 mod parts;
 mod program;
 mod refusing;
+mod rows;
 mod sections;
 mod sending;
 mod style;

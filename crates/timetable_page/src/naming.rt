@@ -69,3 +69,15 @@ pub(crate) fn constraint_name(raw: &RawInstance, constraint: u32) -> &Text {
         None => &raw.id.text,
     }
 }
+
+/// The Id of the constraint with a number, where it is called otherwise.
+pub(crate) fn constraint_id(raw: &RawInstance, constraint: u32) -> Option<&Text> {
+    let Some(constraint) = raw.constraints.as_slice().get(constraint as usize) else {
+        return None;
+    };
+    let id = &constraint.id.text;
+    if shown(&constraint.name, id).is_same(id) {
+        return None;
+    }
+    Some(id)
+}

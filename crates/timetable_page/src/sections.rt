@@ -11,13 +11,14 @@ use crate::defects::push_defects;
 use crate::draft::Draft;
 use crate::events::push_events;
 use crate::grids::push_grids;
+use crate::kinds::{kind_name, kind_of, push_kinds};
 use crate::layout::layout_of;
 use crate::marking::{push_invalid, push_totals};
-use crate::naming::{constraint_name, instance_name};
+use crate::naming::{constraint_id, constraint_name, instance_name};
 use crate::parts::Spelled;
 use crate::view::View;
 use khe_base::{CostFn, NoMemory, Seq, Text, Totals};
-use khe_instance::{Constraint, Instance, Plain, Rule};
+use khe_instance::{Constraint, Instance, Plain};
 use plain_eval::Values;
 use std::alloc::Global;
 use xhstt_shape::RawInstance;
@@ -88,28 +89,6 @@ fn push_cause(page: &mut Text, cause: u32, entry: u32) -> Result<(), NoMemory>
     page.push_literal("</p></section>\n")
 }
 
-/// The name of a kind of constraints.
-pub(crate) fn kind_name(rule: &Rule) -> &'static str {
-    match rule {
-        Rule::AssignTime => "AssignTime",
-        Rule::AssignResource { .. } => "AssignResource",
-        Rule::SplitEvents { .. } => "SplitEvents",
-        Rule::DistributeSplitEvents { .. } => "DistributeSplitEvents",
-        Rule::PreferTimes { .. } => "PreferTimes",
-        Rule::PreferResources { .. } => "PreferResources",
-        Rule::AvoidSplitAssignments { .. } => "AvoidSplitAssignments",
-        Rule::SpreadEvents { .. } => "SpreadEvents",
-        Rule::LinkEvents => "LinkEvents",
-        Rule::OrderEvents { .. } => "OrderEvents",
-        Rule::AvoidClashes => "AvoidClashes",
-        Rule::AvoidUnavailableTimes { .. } => "AvoidUnavailableTimes",
-        Rule::LimitIdleTimes { .. } => "LimitIdleTimes",
-        Rule::ClusterBusyTimes { .. } => "ClusterBusyTimes",
-        Rule::LimitBusyTimes { .. } => "LimitBusyTimes",
-        Rule::LimitWorkload { .. } => "LimitWorkload",
-    }
-}
-
 /// How a constraint's cost counts.
 fn hardness(required: bool) -> &'static str {
     if required { "hard" } else { "soft" }
@@ -124,8 +103,8 @@ fn cost_function(cost: CostFn) -> &'static str {
     }
 }
 
-/// Adds the row of a constraint: its kind, its name, whether it is required, its weight, how many monitors deviate,
-/// and what they cost together.
+/// Adds the row of a constraint: its kind, its name and its Id, whether it is required, its weight, how many monitors
+/// deviate, and what they cost together.
 fn push_constraint_row(
     page: &mut Draft,
     number: u32,
@@ -135,12 +114,12 @@ fn push_constraint_row(
     defects: &[Defect],
 ) {
     page.push_place("<tr id=\"s", number, "c", which, "\"><td>");
-    page.push_str(kind_name(&constraint.rule));
-    page.push_named(
-        "</td><th scope=\"row\">",
-        constraint_name(raw, which),
-        "</th><td>",
-    );
+    page.push_str(kind_name(kind_of(&constraint.rule)));
+    page.push_named("</td><th scope=\"row\">", constraint_name(raw, which), "");
+    if let Some(id) = constraint_id(raw, which) {
+        page.push_named(" <small>", id, "</small>");
+    }
+    page.push_literal("</th><td>");
     page.push_str(hardness(constraint.required));
     page.push_counted(
         "</td><td class=\"num\">",
@@ -215,7 +194,7 @@ fn defects_of(alloc: Global, inst: &Instance, values: &Values) -> Result<Seq<Seq
     Ok(defects)
 }
 
-/// Adds what a section has below the totals: the costs by constraint, the timetables and the events.
+/// Adds what a section has below the totals: the costs by kind and by constraint, the timetables and the events.
 fn push_below(
     alloc: Global,
     page: &mut Draft,
@@ -223,6 +202,7 @@ fn push_below(
     defects: &Seq<Seq<Defect>>,
     deviations: &[u64],
 ) {
+    push_kinds(page, view.inst, defects);
     push_costs(alloc, page, view, defects);
     push_grids(alloc, page, view, deviations);
     push_events(page, view);
@@ -268,7 +248,7 @@ fn rest_of(
     below(alloc, &view, values)
 }
 
-/// The section of a valid solution: its totals, its costs by constraint, its timetables and its events.
+/// The section of a valid solution: its totals, its costs by kind and by constraint, its timetables and its events.
 pub(crate) fn valid_section(
     alloc: Global,
     spelled: &Spelled<'_>,

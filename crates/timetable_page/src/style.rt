@@ -32,6 +32,7 @@ caption{position:absolute;width:1px;height:1px;overflow:hidden;clip-path:inset(5
 td.bad{background:var(--badback);border:2px solid var(--bad);font-weight:400}
 td.idle{background:var(--idleback);border-style:dashed}
 td.off{color:var(--soft);background:var(--band);border-style:dotted}
+td.gap,.more{color:var(--soft)}.more{display:block;font-size:.8rem}
 td.none{border:0}
 .mark{display:block;font-weight:700;font-size:.8rem;color:var(--bad)}.idle .mark{color:var(--idle)}
 .best{color:var(--best);font-weight:700;white-space:nowrap}
@@ -44,7 +45,7 @@ search{display:block;margin:.8rem 0}label{display:block}
 input{font:inherit;width:100%;max-width:28rem;padding:.35rem .5rem;color:inherit;background:var(--band);
 border:1px solid var(--line);border-radius:.3rem}
 #found{list-style:none;margin:.3rem 0;padding:0;columns:18rem}
-.legend{color:var(--soft);margin:.4rem 0}
+.legend{color:var(--soft);margin:.4rem 0}.week{font-weight:600;margin:.5rem 0 .1rem}
 @media screen and (max-width:40rem){th,td{padding:.15rem .25rem}.costs{font-size:.7rem;width:100%}
 .costs th,.costs td,.grid td{overflow-wrap:anywhere}.costs thead th{overflow-wrap:normal}
 .costs td:first-child:not([colspan]){min-width:5rem}.why ul{padding-left:1rem}.costs .why{font-size:.85rem}
@@ -55,7 +56,7 @@ border:1px solid var(--line);border-radius:.3rem}
 @media print{:root{color-scheme:light;--ink:#000;--soft:#000;--back:#fff;--band:#fff;--line:#888;--link:#000;--bad:#000;
 --badback:#fff;--idle:#000;--idleback:#fff;--best:#000}
 body{max-width:none;padding:0;font-size:9pt}search,noscript{display:none}a,button{color:inherit;text-decoration:none}
-.one{break-inside:avoid;overflow:visible}h3{break-after:avoid}.wide{overflow:visible}.sol{break-before:page}
+.one{break-inside:avoid;overflow:visible}h3,.week{break-after:avoid}.wide{overflow:visible}.sol{break-before:page}
 tr,li{break-inside:avoid}thead{display:table-header-group}.grid td{min-width:0}}
 "#;
 
