@@ -126,9 +126,10 @@ def look_at_refusals(*archives):
             with tempfile.TemporaryDirectory() as folder:
                 status, text = script(archive, [], folder)
             error = raised(khe.ArchiveRefused, lambda: khe.Session(archive, 0, **door).close())
-            found = (3, f"{error}\n".encode()) if error else (0, b"")
+            found = (3, f"{error.text}\n".encode()) if error else (0, b"")
             refused += error is not None
-            if found != (status, text) or error and str(error).split(" ")[3:5] != [str(error.number), error.name]:
+            if found != (status, text) or error and (str(error) != f"{archive}: {error.text}" or
+                                                     error.text.split(" ")[3:5] != [str(error.number), error.name]):
                 differing.append((archive, status, text, found))
         case(f"{refused} refusals of {len(archives)} archives through {name} are those of khe script", not differing, *differing)
 
@@ -185,7 +186,8 @@ def look_at_errors(name, week, door):
          == [(type(error), str(error), vars(error)) for error in again], *again)
     case(f"{name}: a number of no solution is refused", None not in
          [raised(ValueError, lambda: khe.Session("examples/first.xml", solution, **door)) for solution in (-1, 2 ** 32)])
-    case(f"{name}: an archive that is not there raises", raised((OSError, khe.Ended), lambda: khe.Session("nothing.xml", 0, **door)) is not None)
+    missing = raised((OSError, khe.Ended), lambda: khe.Session("nothing.xml", 0, **door))
+    case(f"{name}: an archive that is not there raises, and names the file", "nothing.xml" in str(missing), missing)
     week.close()
     week.close()
     ended = [raised(khe.Ended, call) for call in (week.totals, week.meets, lambda: week.answer(b"total"), lambda: list(week.answers([b"total"])))]
@@ -315,17 +317,36 @@ def look_at_library(week, made):
     """What may happen in the library."""
     case("the library: that it keeps no demands is said", raised(ValueError, lambda: khe.Session(week, 0, library=LIBRARY, demands=True)) is not None)
     case("the library: one that is not there raises", raised(OSError, lambda: khe.Session(week, 0, library="/nothing")) is not None)
-    with khe.Session(made, 0, library=LIBRARY) as session:
-        thread = threading.Thread(target=session.repair, args=(4, 200000))
+
+
+def look_at_turns(name, week, door):
+    """Threads that call one session take turns."""
+    with khe.Session(week, 0, **door) as session:
+        wanted = [session.answer(line) for line in (b"total", b"monitors", b"show")]
+        found = []
+
+        def ask():
+            for _ in range(100):
+                found.append([session.answer(line) for line in (b"total", b"monitors", b"show")] == wanted)
+        threads = [threading.Thread(target=ask) for _ in range(2)]
+        for thread in threads:
+            thread.start()
+        for thread in threads:
+            thread.join()
+        case(f"{name}: two threads ask one session, and each has its answers", found == [True] * 200, found.count(False))
+        thread = threading.Thread(target=session.repair, args=(2, 3000))
         thread.start()
-        errors = [None]
-        while thread.is_alive() and errors == [None]:
-            errors = [raised(khe.KheError, session.totals)]
-        if errors != [None]:
-            errors += [raised(khe.KheError, session.answer, b"total"), raised(khe.KheError, session.close)]
+        while thread.is_alive() and session._door.lock.acquire(blocking=False):
+            session._door.lock.release()
+        after = session.totals()
         thread.join()
-        case("the library: while a repair goes on other threads do, and can't come into its session",
-             None not in errors and not session.is_ended and session.totals() >= (0, 0), errors)
+        case(f"{name}: a call waits for a repair of another thread", after == session.totals() and after < (25, 13), after)
+        threads = [threading.Thread(target=lambda: [(session.begin(), session.end()) for _ in range(200)]) for _ in range(2)]
+        for thread in threads:
+            thread.start()
+        for thread in threads:
+            thread.join()
+        case(f"{name}: marks of two threads are counted", session.marks == 0, session.marks)
 
 
 def look_at_behaviour(week, made):
@@ -337,6 +358,7 @@ def look_at_behaviour(week, made):
         look_at_long(name, made, door)
         look_at_many(name, week, door)
         look_at_sides(name, made, door)
+        look_at_turns(name, week, door)
     look_at_talk(week, made)
     if LIBRARY:
         look_at_library(week, made)

@@ -1,8 +1,9 @@
 #!/usr/bin/env bash
 # Checks the doors to the engine for other programs: khe-talk and the shared library, from C, from Python and on a
-# cluster. Random lines are answered through each door as by `khe script`, a cluster writes what `khe solve` writes,
-# the examples run, the C ones under sanitizers and valgrind, and lines are answered fast enough. It installs what it
-# needs from Debian's packages, prints a line for each case, and ends with status 1 where one failed.
+# cluster, and what ./install puts in place. Random lines are answered through each door as by `khe script`, a cluster
+# writes what `khe solve` writes, the examples run, the C ones under sanitizers and valgrind, and lines are answered fast
+# enough. It installs what it needs from Debian's packages, prints a line for each case, and ends with status 1 where
+# one failed.
 #
 #     checks/doors.sh                 all; on a new machine the programs and the library are proved and built first.
 #                                     The speeds are for a quiet machine
@@ -21,10 +22,14 @@ failed=0
 cd "$top" || exit 1
 export PYTHONDONTWRITEBYTECODE=1
 
-have() { command -v cc && command -v make && command -v valgrind && command -v parallel && "$python" -c 'import distributed, matplotlib'; }
+have() {
+  command -v cc && command -v make && command -v valgrind && command -v parallel && command -v pkg-config &&
+    command -v man && command -v zsh && command -v fish && "$python" -c 'import distributed, matplotlib, venv, setuptools'
+}
 have > /dev/null 2>&1 || { apt-get update && DEBIAN_FRONTEND=noninteractive apt-get install -y --no-install-recommends \
-  gcc libc6-dev make valgrind parallel python3-distributed python3-matplotlib; } > "$work/install" 2>&1
-have > /dev/null 2>&1 || { tail -5 "$work/install"; echo "checks/doors.sh: gcc, make, valgrind, parallel, python3-distributed and python3-matplotlib could not be installed"; exit 1; }
+  gcc libc6-dev make valgrind parallel pkgconf man-db zsh fish python3-distributed python3-matplotlib python3-venv \
+  python3-setuptools python3-wheel; } > "$work/install" 2>&1
+have > /dev/null 2>&1 || { tail -5 "$work/install"; echo "checks/doors.sh: the packages that it wants could not be installed"; exit 1; }
 
 # Tells whether a case holds, and what its commands wrote where it does not.
 holds() {
@@ -143,6 +148,10 @@ refusal='khe: archive refused: 19 Invalid 3 FixedTime entry 1'
 holds "a refused solution has status 3 and its line, by the cluster" '[ "$("$python" examples/cluster/solve.py examples/school_week.xml 1 --depth 1 --budget 1 --jobs 2 --program "$KHE_TALK"; echo $?)" = "$refusal"$'"'\n3'"' ]'
 holds "and by a job of its own" '[ "$(examples/cluster/jobs.sh run examples/school_week.xml 1 1 1 "$work/jobs" 0; echo $?)" = "$refusal"$'"'\n3'"' ]'
 holds "totals that are missing are told" '! examples/cluster/jobs.sh least examples/school_week.xml 0 1 1 "$work/jobs" 2'
+checks/clusters.sh || failed=1
+
+# What is installed.
+checks/installed.sh || failed=1
 
 # Speed.
 judged=()

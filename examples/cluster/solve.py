@@ -8,8 +8,12 @@ any of them. Of all results the one with the least totals is taken, and of equal
 archive is written as `khe solve` writes it: the same bytes, whoever ran which job.
 
 Without --at a local cluster of N processes is started. With --at the jobs go to the scheduler there. The archive and
-khe.py travel to its workers; the program khe-talk has to be there already, at the same place as here (a shared folder
-will do), or at the place that --program names. It takes dask.distributed (python3-distributed).
+the package khe travel to its workers; the program khe-talk has to be there already, at the same place as here (a
+shared folder will do), or at the place that --program names. It takes dask.distributed (python3-distributed).
+
+The status is 2 where the words have no reading, 3 where the archive or the solution is refused, 4 where the archive
+can't be read, 5 where the result can't be written, and 1 where the work failed on the cluster. A line on standard error
+says why.
 """
 
 from __future__ import annotations
@@ -19,6 +23,7 @@ import logging
 import os
 import sys
 import tempfile
+import zipfile
 from typing import Any, Callable, Optional, Sequence
 
 TOP = os.path.dirname(os.path.dirname(os.path.dirname(os.path.abspath(__file__))))
@@ -39,6 +44,17 @@ Result = tuple[tuple[int, int], int, bytes]
 def order(result: Result) -> tuple[tuple[int, int], int]:
     """What results are compared by: that of lower totals is less, of equal ones that of the lower job."""
     return result[:2]
+
+
+def send_package(client: Any) -> None:
+    """Gives the workers the package khe as it is here."""
+    folder = os.path.dirname(os.path.abspath(khe.__file__))
+    with tempfile.TemporaryDirectory() as place:
+        name = os.path.join(place, "khe_of_this_run.zip")
+        with zipfile.ZipFile(name, "w") as pack:
+            for module in ("__init__.py", "__main__.py"):
+                pack.write(os.path.join(folder, module), "khe/" + module)
+        client.upload_file(name)
 
 
 def run_jobs(archive: bytes, task: Task, jobs: Sequence[int]) -> Result:
@@ -64,7 +80,7 @@ def least_of(results: Sequence[Result]) -> Result:
 
 def solved(client: Any, archive: bytes, task: Task, jobs: int) -> Result:
     """The least result of so many jobs, run by a cluster."""
-    client.upload_file(khe.__file__)
+    send_package(client)
     kept = client.scatter(archive, broadcast=True)
     pieces = min(jobs, PIECES * max(1, sum(client.nthreads().values())))
     results = [client.submit(run_jobs, kept, task, range(first, jobs, pieces), pure=False) for first in range(pieces)]
@@ -83,7 +99,7 @@ def number(least: int, most: int) -> Callable[[str], int]:
 
 
 def main() -> int:
-    """Solves by the words of the command line. The status is 3 where the archive or its solution is refused."""
+    """Solves by the words of the command line, and answers the status."""
     parser = argparse.ArgumentParser(description="khe solve, its jobs shared by the machines of a cluster")
     parser.add_argument("archive")
     parser.add_argument("solution", type=number(0, 2 ** 32 - 1))
@@ -97,8 +113,11 @@ def main() -> int:
     parser.add_argument("--out", help="the file for the archive, in place of standard output")
     words = parser.parse_args()
     from distributed import Client, LocalCluster
-    with open(words.archive, "rb") as file:
-        archive = file.read()
+    try:
+        with open(words.archive, "rb") as file:
+            archive = file.read()
+    except OSError as error:
+        return failed(4, f"{words.archive}: {error.strerror}")
     task = (words.solution, words.depth, words.budget, words.program)
     try:
         if words.at:
@@ -111,11 +130,22 @@ def main() -> int:
                 with Client(cluster) as client:
                     totals, job, text = solved(client, archive, task, words.jobs)
     except khe.ArchiveRefused as refused:
-        print(refused)
-        return 3
-    with open(words.out, "wb") if words.out else sys.stdout.buffer as out:
-        out.write(text + b"<!-- khe solve job %d hard %d soft %d -->\n" % (job, *totals))
+        print(refused.text)
+        return failed(3, f"{words.archive}: {refused.text}")
+    except Exception as error:
+        return failed(1, f"{words.archive}: {type(error).__name__}: {error}")
+    try:
+        with open(words.out, "wb") if words.out else sys.stdout.buffer as out:
+            out.write(text + b"<!-- khe solve job %d hard %d soft %d -->\n" % (job, *totals))
+    except OSError as error:
+        return failed(5, f"{words.out or 'standard output'}: {error.strerror}")
     return 0
+
+
+def failed(status: int, why: str) -> int:
+    """Says on standard error why the work failed, and answers its status."""
+    print(f"solve.py: {why}", file=sys.stderr)
+    return status
 
 
 if __name__ == "__main__":
