@@ -3,7 +3,7 @@
 
     checks/doors.py lines NAME ARCHIVE MEETS TIMES RESOURCES MONITORS COUNT SEED    random lines through each door
     checks/doors.py refusals ARCHIVE..                                           archives that are refused or not
-    checks/doors.py behaviour WEEK MADE                                          sessions of python/khe.py
+    checks/doors.py behaviour WEEK MADE                                          sessions of the package khe
     checks/doors.py speed ARCHIVE MEETS TIMES RESOURCES MONITORS [told]          lines a second; `told`: not judged
 
 It is called by checks/doors.sh, which says what it needs: KHE and KHE_TALK are the programs, KHE_LIBRARY the shared

@@ -114,12 +114,12 @@ fi
 # Python.
 sed -n '/^## From Python/,/^## /p' docs/manual.md | sed -n '/^```python/,/^```$/p' | sed '/^```/d' > "$work/manual.py"
 holds "the manual's lines in Python run" '(mkdir "$work/here" && ln -s "$top/examples" "$work/here" && cd "$work/here" && PYTHONPATH=$top/python "$python" "$work/manual.py" && "$KHE" check better.xml | cmp - better.xml)'
-holds "python/khe.py looks at a session through khe-talk" '"$python" python/khe.py examples/school_week.xml 0 --lines 1000'
+holds "the package looks at a session through khe-talk" 'PYTHONPATH=python "$python" -m khe examples/school_week.xml 0 --lines 1000'
 climb=(examples/python/climb.py examples/school_week.xml 0 --tries 500 --seed 3)
 holds "the hill climber runs, and draws" '"$python" "${climb[@]}" --plot "$work/climb.png" --out "$work/better.xml" > "$work/climb" && [ "$(head -c 4 "$work/climb.png" | tail -c 3)" = PNG ]'
 holds "what it wrote costs what it says" '[ "repaired$("$KHE" evaluate "$work/better.xml" | sed -n "s/^total//p" | head -1)" = "$(tail -1 "$work/climb")" ]'
 if [ -n "${KHE_LIBRARY:-}" ]; then
-  holds "python/khe.py looks at a session through the library" '"$python" python/khe.py examples/school_week.xml 0 --lines 1000 --library "$KHE_LIBRARY"'
+  holds "the package looks at a session through the library" 'PYTHONPATH=python "$python" -m khe examples/school_week.xml 0 --lines 1000 --library "$KHE_LIBRARY"'
   holds "the hill climber comes to the same through the library" '"$python" "${climb[@]}" --library "$KHE_LIBRARY" --out "$work/other.xml" | cmp - "$work/climb" && cmp "$work/better.xml" "$work/other.xml"'
 fi
 

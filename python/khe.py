@@ -1,1 +1,0 @@
-khe/__init__.py
