@@ -9,7 +9,7 @@ use crate::sizes::{rooms, teachers};
 use khe_base::{NoMemory, Seq, beside};
 use std::alloc::Global;
 
-/// How many times there are.
+/// How many times there are: five days of eight times each.
 const TIMES: u32 = 40;
 
 /// How many solutions there are.
@@ -51,7 +51,8 @@ pub struct DrawnJob {
     pub solutions: Seq<Seq<DrawnEntry>>,
 }
 
-/// The preassigned time of an event of a duration: each twentieth event has one.
+/// The preassigned time of an event of a duration: each twentieth event has one. It is early enough for the
+/// event to end with the last time.
 #[tactic(auto, unfolding(crate::specs::Job::fixed_time))]
 fn draw_fixed_time(draws: &mut Draws, number: u32, duration: u32) -> Option<u32>
     requires { duration ≤ 3 }
@@ -94,7 +95,8 @@ fn draw_events(alloc: Global, draws: &mut Draws, size: u32) -> Result<Seq<DrawnE
     Ok(events)
 }
 
-/// Whether a solution gives an event in two parts.
+/// Whether a solution gives an event in two parts: a draw decides, for events of at least 2 times without a
+/// preassigned time.
 #[tactic(auto, unfolding(crate::specs::Job::is_cut))]
 fn draw_cut(draws: &mut Draws, event: DrawnEvent) -> bool
     ensures value { result ≡ (spec.is_cut event draws.old.state).0 }
@@ -107,7 +109,7 @@ fn draw_cut(draws: &mut Draws, event: DrawnEvent) -> bool
     draws.draw(2) == 1
 }
 
-/// The time of a part of an event, of a duration.
+/// The time of a part of an event, of a duration, if it is given one: none where the event's is preassigned.
 #[tactic(auto, unfolding(crate::specs::Job::start))]
 fn draw_start(draws: &mut Draws, event: DrawnEvent, duration: u32) -> Option<u32>
     requires { duration ≤ 3 }

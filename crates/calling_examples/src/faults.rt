@@ -13,7 +13,7 @@ pub enum ReadFault {
     /// The bytes are no text of elements.
     #[error("{0}")]
     Text(TextFault),
-    /// The elements are none of an archive.
+    /// The elements are not those of an archive.
     #[error("{0}")]
     Shape(ShapeFault),
     /// There are more instances than numbers for them.

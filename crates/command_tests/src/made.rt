@@ -18,7 +18,7 @@ const MAKE: Call<'static> = Call {
     files: &[],
 };
 
-/// What the made archive has, each so often.
+/// Beginnings of elements, with how often the made archive has each.
 const HAS: &[(&str, usize)] = &[
     ("<Time Id=", 40),
     ("<Resource Id=", 120),
@@ -92,7 +92,7 @@ fn written_on<R: Threads + Sync, G: Gate>(
     run_at(rt, alloc, call, GOOD, ROOM, gate)
 }
 
-/// Whether a command ends well after the same as another one, a text that begins so.
+/// Whether two commands both end well with the same text, one that begins with these bytes.
 fn is_same<R: Threads + Sync>(
     rt: &R,
     alloc: Global,
@@ -106,7 +106,8 @@ fn is_same<R: Threads + Sync>(
     Ok(status.max(other_status) == 0 && bytes.starts_with(first) && bytes == other.taken())
 }
 
-/// Whether two workers of a command are at work at the same time, and it ends well.
+/// Whether a command ends well, and two of its workers were at work at the same time: the gate holds the first
+/// worker until another one comes.
 fn two_come<R: Threads + Sync>(rt: &R, alloc: Global, words: &[&str]) -> Result<bool, NoMemory> {
     let gate = Meeting::of(1);
     let (status, sink) = written(rt, alloc, words, &gate)?;

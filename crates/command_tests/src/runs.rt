@@ -8,9 +8,11 @@ use program_runs::{
     REST, SECOND, TWO_EVENTS,
 };
 
-/// The greatest number of bytes of a read or of a write, the number of the first call that fails, and the number of
-/// the first call that a run then does not make. Where to let each call fail would take minutes at one byte a call,
-/// each one does at more bytes, and the last ones do at one.
+/// The greatest number of bytes of a read or of a write, the number of the first call that fails, and the
+/// number of the first call that a run then does not make. At one byte a call, the archive of 2,009 bytes takes
+/// 2,011 calls of the shelf (one opens it, 2,009 read it, one sees its end), so that 2,012 is the first that is
+/// not made. Where failing each of these calls would take minutes, only the last ones fail at one byte a call,
+/// and each one does at more bytes a call.
 pub(crate) type Sweep = (u32, u64, u64);
 
 /// A run, and how it ends where no call fails.
@@ -312,7 +314,7 @@ pub(crate) const TOLD: &[&Run] = &[
 /// Runs that write an archive with a repaired timetable.
 pub(crate) const REPAIRED: &[&Run] = &[&REPAIR, &SOLVE];
 
-/// Those of which a new timetable is written.
+/// Runs that write an archive with a new timetable.
 pub(crate) const RENEWED: &[&Run] = &[&CONSTRUCT, &MATCH];
 
 /// The runs that write an archive as it is read or drawn.

@@ -16,7 +16,7 @@ enum Device {
     Sink,
 }
 
-/// A sweep that came to another call than it should.
+/// A sweep whose first call that was not made is another than it should be.
 #[derive(Clone, Copy, Debug)]
 struct Wrong<'a> {
     words: &'a [&'a str],
@@ -26,7 +26,8 @@ struct Wrong<'a> {
     made: Option<u64>,
 }
 
-/// The call of a device that a run is the first not to make.
+/// The number of the first call of a device that a run does not make, or `None` where some run ended in no way
+/// that it may end in.
 fn made<R: Threads + Sync>(
     rt: &R,
     alloc: Global,
@@ -45,7 +46,7 @@ fn made<R: Threads + Sync>(
     }
 }
 
-/// The first of these sweeps of a run that comes to another call than it should.
+/// The first of these sweeps of a run that does not come to the call that it names.
 fn wrong_among<R: Threads + Sync>(
     rt: &R,
     alloc: Global,
@@ -68,7 +69,8 @@ fn wrong_among<R: Threads + Sync>(
     Ok(None)
 }
 
-/// The first sweep of a run that comes to another call than it should.
+/// The first sweep of a run, over its shelf and then over its sink, that does not come to the call that it
+/// names.
 fn wrong_of<R: Threads + Sync>(
     rt: &R,
     alloc: Global,

@@ -16,13 +16,14 @@ asked_of (Construct archive instance chains) = constructing archive.now instance
 asked_of (Make seed size) = making seed size
 asked_of (Run seed size) = running seed size
 
--- of a repair that may follow, the moves of a chain are 1 to CHAIN_MOVES, and one chain at least may be tried
+-- where a repair follows, the moves of a chain are 1 to CHAIN_MOVES, and at least one chain may be tried
 abbrev pub AreChains : Option (ℕ × ℕ) → Type 0
 AreChains None = Unit {0}
 AreChains (Some c) = (1 ≤ c.0) × (c.0 ≤ CHAIN_MOVES) × (1 ≤ c.1)
 
--- workers are 1 to WORKERS, the moves of a chain 1 to CHAIN_MOVES, one chain at least may be tried, and jobs are 1
--- to JOBS; the events that are made are 1 to MADE_EVENTS
+-- workers are 1 to WORKERS, the moves of a chain 1 to CHAIN_MOVES, at least one chain may be tried, and jobs
+-- are 1 to JOBS; the events that are made are 1 to MADE_EVENTS. Numbers of solutions, times and instances may
+-- be any: the archive says whether they exist
 abbrev pub IsFit : Request → Type 0
 IsFit (Evaluate archive all workers) = (1 ≤ workers) × (workers ≤ WORKERS)
 IsFit (Script archive solution script tied) = Unit {0}

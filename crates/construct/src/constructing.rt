@@ -30,11 +30,11 @@ use std::sync::ledger::Ledger;
 /// the totals without; and after that each task without a resource, in the same order of meets and then by
 /// place, is given a resource of its type in the same way. All monitors are attached, and there are no groups.
 ///
-/// Its only error is want of memory. It opens an engine, and asks it for each meet and each time at which the
-/// meet doesn't end too late what the assignment would leave, and for each task and each resource of its type:
-/// so it takes at most twice the time of as many tries of repair. Besides, each meet takes a test for each time,
-/// each task one for each resource, and the order of the meets takes time in proportion to the meet slots for
-/// each duration that a meet has.
+/// It fails only where memory is refused. It opens an engine, and asks it for each meet and each time at which
+/// the meet doesn't end too late what the assignment would leave, and for each task and each resource of its
+/// type: so it takes at most twice the time of as many tries of repair. Besides, each meet takes a test for
+/// each time, each task one for each resource, and the order of the meets takes time in proportion to the meet
+/// slots for each duration that a meet has.
 pub fn construct<F: Family + Drop, L: Ledger>(
     alloc: Global,
     inst: &Instance,

@@ -15,7 +15,7 @@ use std::sync::ledger::Ledger;
 
 /// Constructs a timetable of an instance, without counting steps.
 ///
-/// Its only error is want of memory. It takes what `construct` takes.
+/// It fails only where memory is refused. It takes what `construct` takes.
 pub fn build<F: Family + Drop>(alloc: Global, inst: &Instance) -> Result<Built, NoMemory>
     requires joined { F.IsWellJoined }
     requires serves { ServesAll F.serves_kind }

@@ -14,8 +14,8 @@ use xhstt_shape::{Archive, Entries, Name, RawSolution, Ref, SolutionGroup};
 /// Puts one group with the Id `constructed` in place of all solution groups of an archive. Its only solution is the
 /// timetable of the instance, without a description and a running time.
 ///
-/// Its only error is want of memory, after which the archive is as it was. It takes time and memory in proportion
-/// to the timetable and its Ids, and the time to drop the old groups.
+/// It fails only where memory is refused, after which the archive is as it was. It takes time and memory in
+/// proportion to the timetable and its Ids, and the time to drop the old groups.
 pub fn regroup(
     alloc: Global,
     archive: &mut Archive,

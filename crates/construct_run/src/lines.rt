@@ -10,7 +10,7 @@ use std::alloc::Global;
 /// The line on a construction, `<!-- khe construct meets N hard H soft S -->`: how many meets the timetable
 /// has, and its totals. It is a comment of the archive that it stands after.
 ///
-/// Its only error is want of memory. It takes constant time and memory.
+/// It fails only where memory is refused. It takes constant time and memory.
 pub fn construct_line(alloc: Global, meets: u64, totals: Totals) -> Result<Text, NoMemory>
     ensures { IfOk result (λ t. t ≡ spec.construct_line meets totals) }
 {

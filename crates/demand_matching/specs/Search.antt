@@ -1,4 +1,4 @@
--- How far a search has come: the first demands of an order are those that it met.
+-- How far a search has come: the first demands of an order are the ones that it met.
 use Rattle.std.specs.Prelude.{ℕ, ◌+◌, ◌*◌, ◌<◌, ◌≤◌, ◌≡◌, true, false, length, List, Some, None, slice_index}
 use Rattle.khe_base.specs.Bits.{is_set}
 use Rattle.demand_matching.specs.declared.domains.Domain.{Domain}

@@ -13,7 +13,7 @@ use std::alloc::Global;
 /// The line of a group of monitors, `group G hard H soft S`: its number, and what its children cost
 /// together.
 ///
-/// Its only error is want of memory. It takes constant time and memory.
+/// It fails only where memory is refused. It takes constant time and memory.
 pub fn group_line(alloc: Global, group: GroupId, totals: Totals) -> Result<Text, NoMemory>
     ensures { IfOk result (λ t. t ≡ group_line group.0 totals) }
 {
@@ -31,7 +31,7 @@ pub fn group_line(alloc: Global, group: GroupId, totals: Totals) -> Result<Text,
 /// The line of a meet, `meet M event "E" duration D time T`: its number, the Id of its event,
 /// escaped, its duration and the number of its start, with `-` where it has none.
 ///
-/// Its only error is want of memory. It takes time and memory linear in the Id.
+/// It fails only where memory is refused. It takes time and memory linear in the Id.
 pub fn meet_line(alloc: Global, inst: &Instance, meet: &Meet) -> Result<Text, NoMemory>
     requires { meet.now.event.0 < length inst.now.events }
     ensures { IfOk result (λ t. t ≡ meet_line inst.now meet.now) }
@@ -59,7 +59,7 @@ fn push_span(line: &mut Text, duration: u32, start: Option<u32>) -> Result<(), N
 /// The line of a task, `task M P resource R`: the number of its meet, its place and the number of
 /// its resource, with `-` where it has none.
 ///
-/// Its only error is want of memory. It takes constant time and memory.
+/// It fails only where memory is refused. It takes constant time and memory.
 pub fn task_line(alloc: Global, task: &Task) -> Result<Text, NoMemory>
     ensures { IfOk result (λ t. t ≡ task_line task.now) }
 {
@@ -77,7 +77,7 @@ pub fn task_line(alloc: Global, task: &Task) -> Result<Text, NoMemory>
 /// The answer to what was done, `ok`, or `ok N` with the number of the meet or the group that was
 /// made.
 ///
-/// Its only error is want of memory. It takes constant time and memory.
+/// It fails only where memory is refused. It takes constant time and memory.
 pub fn ok_line(alloc: Global, made: Option<u32>) -> Result<Text, NoMemory>
     ensures { IfOk result (λ t. t ≡ ok_line made) }
 {
@@ -93,7 +93,7 @@ pub fn ok_line(alloc: Global, made: Option<u32>) -> Result<Text, NoMemory>
 
 /// The answer to what is refused, `refused NUMBER NAME`: the number of the refusal and its name.
 ///
-/// Its only error is want of memory. It takes constant time and memory.
+/// It fails only where memory is refused. It takes constant time and memory.
 pub fn refused_line(alloc: Global, refusal: Refusal) -> Result<Text, NoMemory>
     ensures { IfOk result (λ t. t ≡ refused_line refusal) }
 {

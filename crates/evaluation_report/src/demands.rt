@@ -15,7 +15,7 @@ use std::alloc::Global;
 /// The first line on what is short, `deficit D demands N`: how many demands no assignment can serve,
 /// and how many demands compete, which have a line each.
 ///
-/// Its only error is want of memory. It takes constant time and memory.
+/// It fails only where memory is refused. It takes constant time and memory.
 pub fn deficit_line(alloc: Global, deficit: u32, demands: u32) -> Result<Text, NoMemory>
     ensures { IfOk result (λ t. t ≡ spec.deficit_line deficit demands) }
 {
@@ -31,7 +31,7 @@ pub fn deficit_line(alloc: Global, deficit: u32, demands: u32) -> Result<Text, N
 /// Adds the line of a demand: `demand M P O` for a task, with the number of its meet, its place and
 /// the offset, or `unavailable R T` for a resource that is to be free at a time, by their numbers.
 ///
-/// Its only error is want of memory. It takes constant time, and no memory but for what is added.
+/// It fails only where memory is refused. It takes constant time, and no memory but for what is added.
 pub fn push_demand_line(line: &mut Text, demand: Demand) -> Result<(), NoMemory>
     ensures { OnOk result (line.new ≡ line.old ++ spec.demand_line demand) }
 {

@@ -13,7 +13,7 @@ use std::alloc::Global;
 /// The first line of a report, `archive instances I solutions S`: how many instances and solutions
 /// the archive has.
 ///
-/// Its only error is want of memory. It takes constant time and memory.
+/// It fails only where memory is refused. It takes constant time and memory.
 pub fn header_line(alloc: Global, instances: u32, solutions: u32) -> Result<Text, NoMemory>
     ensures { IfOk result (λ t. t ≡ header_line instances solutions) }
 {
@@ -29,7 +29,7 @@ pub fn header_line(alloc: Global, instances: u32, solutions: u32) -> Result<Text
 /// The first line of a solution, `solution K group "G" instance "I"`: its number, from 0, and the
 /// Ids of its group and its instance, escaped.
 ///
-/// Its only error is want of memory. It takes time and memory linear in the Ids.
+/// It fails only where memory is refused. It takes time and memory linear in the Ids.
 pub fn solution_line(
     alloc: Global,
     number: u32,
@@ -55,7 +55,7 @@ pub fn solution_line(
 /// attached. The point is `event "E"`, `event "E" role "R"`, `group "G"`, `events "E" "F"` or
 /// `resource "R"`.
 ///
-/// Its only error is want of memory. It takes time and memory linear in the Ids.
+/// It fails only where memory is refused. It takes time and memory linear in the Ids.
 pub fn push_monitor_line(
     alloc: Global,
     text: &mut Text,
@@ -78,7 +78,7 @@ pub fn push_monitor_line(
 
 /// The line of a monitor, as `push_monitor_line` adds it.
 ///
-/// Its only error is want of memory. It takes time and memory linear in the Ids.
+/// It fails only where memory is refused. It takes time and memory linear in the Ids.
 pub fn monitor_line(
     alloc: Global,
     inst: &Instance,
@@ -135,7 +135,7 @@ fn push_tail(
 
 /// The last line of a valid solution, `total hard H soft S`: both totals.
 ///
-/// Its only error is want of memory. It takes constant time and memory.
+/// It fails only where memory is refused. It takes constant time and memory.
 pub fn total_line(alloc: Global, totals: Totals) -> Result<Text, NoMemory>
     ensures { IfOk result (λ t. t ≡ total_line totals) }
 {
@@ -151,7 +151,7 @@ pub fn total_line(alloc: Global, totals: Totals) -> Result<Text, NoMemory>
 /// What an invalid solution has in place of monitors and a total, `invalid CAUSE NAME entry J`: the
 /// number of the cause, from 1 to 7, its name, and the number of the entry, from 0.
 ///
-/// Its only error is want of memory. It takes constant time and memory.
+/// It fails only where memory is refused. It takes constant time and memory.
 pub fn invalid_line(alloc: Global, cause: u32, entry: u32) -> Result<Text, NoMemory>
     ensures { IfOk result (λ t. t ≡ invalid_line cause entry) }
 {
@@ -163,7 +163,7 @@ pub fn invalid_line(alloc: Global, cause: u32, entry: u32) -> Result<Text, NoMem
 
 /// Adds why and at which entry a solution is invalid, `CAUSE NAME entry J`, and a line feed.
 ///
-/// Its only error is want of memory. It takes constant time and memory.
+/// It fails only where memory is refused. It takes constant time and memory.
 pub fn push_cause(line: &mut Text, cause: u32, entry: u32) -> Result<(), NoMemory>
     ensures { OnOk result (line.new ≡ line.old ++ cause_at cause entry) }
 {

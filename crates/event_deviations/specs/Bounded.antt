@@ -1,4 +1,5 @@
--- Bounds on what is at an event: its meets together last no longer than it does, and each stands within the times.
+-- Bounds on what is at an event: its meets together last no longer than the event, and each lies within the
+-- times.
 use Rattle.std.specs.Prelude.{ℕ, ◌+◌, ◌≤◌, List, All, IfSome}
 use Rattle.std.specs.List.{sum_by}
 use Rattle.khe_instance.specs.declared.states.Meet.{Meet}

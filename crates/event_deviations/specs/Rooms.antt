@@ -1,4 +1,4 @@
--- The room that is lent for looking at event groups: how many resources and how many times it serves.
+-- The working space for deviations at event groups: how many resources and how many times it serves.
 use Rattle.std.specs.Prelude.{ℕ, length}
 use Rattle.khe_instance.specs.declared.parts.Parts.{Parts}
 

@@ -1,4 +1,4 @@
--- What deviations are asked of: an instance with the meets and the tasks of a timetable.
+-- What deviations are computed from: an instance with the meets and the tasks of a timetable.
 use Rattle.std.specs.Prelude.{◌≡◌, List}
 use Rattle.khe_base.specs.declared.numbers.ResourceId.{ResourceId}
 use Rattle.khe_instance.specs.declared.parts.Parts.{Parts}

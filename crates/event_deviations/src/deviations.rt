@@ -34,8 +34,8 @@ impl<'a> Model for EventDeviations<'a> {
 }
 
 impl<'a> EventDeviations<'a> {
-    /// Indexes the meets and the tasks of a state of an instance, each task with its meet. Every
-    /// valid state is one.
+    /// Indexes the meets and the tasks of a state of an instance, each task with its meet. Any valid state will
+    /// do.
     ///
     /// It takes time and memory in proportion to the meets, the tasks, and the events with their
     /// places. No other call takes memory.

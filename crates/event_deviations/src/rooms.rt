@@ -1,4 +1,4 @@
-//! The marks that deviations at event groups take.
+//! Working space for the deviations at event groups.
 
 ghost use Rattle.std.specs.Prelude.{◌≡◌, ◌+◌, ◌-◌, ◌*◌, ◌≤◌, ◌<◌, length, count_by, All, IfOk};
 ghost use Rattle.std.specs.List.{sum_by, range_with_len};
@@ -16,9 +16,9 @@ use khe_instance::{Instance, Spread};
 use std::alloc::Global;
 use std::marker::Model;
 
-/// The room that looks at event groups take: a mark for each resource, and two for each time. It is
-/// made once for an instance, and serves any timetable of it. Contracts see for how many resources
-/// and times it is.
+/// Working space for the deviations at event groups: a mark for each resource, and two for each time. It is
+/// made once for an instance, and serves any timetable of it. Contracts see for how many resources and times it
+/// is.
 pub struct EventRoom {
     /// The resources that a look met.
     resources: Marks,
@@ -51,7 +51,7 @@ impl Model for EventRoom {
 }
 
 impl EventRoom {
-    /// The room for an instance. It takes time and memory in proportion to the resources and the
+    /// The working space for an instance. It takes time and memory in proportion to the resources and the
     /// times.
     pub fn open(alloc: Global, inst: &Instance) -> Result<EventRoom, NoMemory>
         ensures { IfOk result (λ room. room ≡ room_for inst.now) }

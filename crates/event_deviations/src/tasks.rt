@@ -9,8 +9,8 @@ use khe_base::{NoMemory, Seq};
 use khe_instance::{Duty, Instance, Meet, Task};
 use std::alloc::Global;
 
-/// The tasks of a timetable with their meets: those of the first meet in the order of its places,
-/// then those of the second, and so on. Every valid state of an instance is told.
+/// The tasks of a timetable with their meets: those of the first meet in the order of its places, then those of
+/// the second, and so on. The meets and tasks of any valid state will do.
 ///
 /// It takes time and memory in proportion to the meets and the tasks.
 pub fn duties(

@@ -12,8 +12,8 @@ use std::alloc::Global;
 
 /// A keeper that has a gauge for each monitor that it serves. It is lent the told state.
 ///
-/// A slot that changes turns the gauges of the monitors that name its event, and no others; where
-/// there are none, or where they hear no such turn, it takes constant time.
+/// A slot that changes turns the gauges of the monitors that name its event, and no others; where there are
+/// none, or where they do not observe such a turn, it takes constant time.
 pub struct Counted<G> {
     index: Index,
     gauges: Vec<G>,

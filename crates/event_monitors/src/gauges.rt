@@ -23,7 +23,7 @@ pub trait Gauge {
     /// The kinds whose monitors have such a gauge.
     ghost serves_kind: { Kind → Bool };
 
-    /// That it keeps what it should of these slots, for a monitor of these parts.
+    /// It keeps what it should of these slots, for a monitor of these parts.
     ghost Keeps: { Self → Parts → Monitor → List Slot → Type 0 };
 
     /// The deviation that is read from it.
@@ -33,7 +33,7 @@ pub trait Gauge {
     fn serves(kind: Kind) -> bool
         ensures { result ≡ serves_kind kind };
 
-    /// That a turn of a slot changes nothing that a gauge keeps or reads.
+    /// A turn of a slot changes nothing that a gauge keeps or reads.
     ghost IsUnheard: { SlotTurn → Type 0 };
 
     /// Whether a turn may change what a gauge keeps or reads. It takes constant time.

@@ -24,7 +24,7 @@ pub trait Share {
     fn share(rule: &Rule, span: Option<Span>, given: Option<Option<ResourceId>>) -> u64
         ensures { result ≡ share rule.now span given };
 
-    /// That a turn of a slot changes nothing of what the slot counts for.
+    /// A turn of a slot does not change what the slot counts for.
     ghost IsUnheard: { SlotTurn → Type 0 };
 
     /// Whether a turn may change what a slot counts for. It takes constant time.

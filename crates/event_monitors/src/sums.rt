@@ -39,7 +39,7 @@ pub trait Summed: Share {
         ensures value { result ≡ measured rule.now total }
         ensures bound { result ≤ total + NUMBER };
 
-    /// It is the definition's.
+    /// It is the deviation of the definition.
     ghost exact: { (p : Parts) (s : List Slot) (rule : Rule) (point : Point) → serves_kind (kind_of rule) ≡ true → IsPointOf p rule point
         → deviation_at p (meets_in s) (duties_in s) rule point ≡ measured rule (total_at Self.share p rule point s) };
 }

@@ -1,4 +1,4 @@
--- A told state whose slots are taken over one by one from a later state: each slot is that of the one or of the
+-- A told state whose slots are copied one by one from a later state: each slot is that of one state or of the
 -- other.
 use Rattle.std.specs.Prelude.{ℕ, ◌≡◌, ◌⊎◌, Bool, true, List, [], ◌∷◌, Some}
 use Rattle.khe_base.specs.declared.numbers.MeetId.{MeetId}

@@ -16,9 +16,8 @@ use khe_instance::{Instance, Kind};
 use khe_told::{Told, Turn, Waits};
 use std::alloc::Global;
 
-/// Keeps what the deviations of the monitors of some kinds are read from, while slots change one by one.
-/// The meets and tasks themselves are told in one place for several keepers, and each is lent them as they stand
-/// before.
+/// Keeps up to date, slot by slot, what the deviations of the monitors of some kinds are computed from. Several
+/// keepers share one copy of the meets and tasks, and each is lent it as it stands before a change.
 pub trait Keeper {
     /// The kinds that it serves.
     ghost serves_kind: { Kind → Bool };
@@ -26,7 +25,7 @@ pub trait Keeper {
     /// A fact of the type alone: where it is made of several keepers, no two serve one kind.
     ghost IsWellJoined: { Type 0 };
 
-    /// That it was opened on the instance with these parts and keeps what it should of these slots.
+    /// It was opened on the instance with these parts and keeps what it should of these slots.
     ghost Keeps: { Self → Parts → List Slot → Type 0 };
 
     /// A keeper while there are no meets. It sizes all that it will need; no other call takes memory.

@@ -1,4 +1,4 @@
--- The name that a table has for a number, and none where no row has the number.
+-- The name that a table has for a number, or none where no row has the number.
 use Rattle.std.specs.Prelude.{ℕ, ◌==◌, if◌then◌else◌, Option, Some, None, List, [], ◌∷◌}
 
 -- what the row of a number says, and nothing where no row has it

@@ -1,4 +1,4 @@
--- An error tells exactly what stands, unless it only tells that memory was refused.
+-- An error says exactly what is the case, unless it says only that memory was refused.
 use Rattle.std.specs.Prelude.{Option, IfSome}
 
 -- exact unless memory ran out: what an error tells stands, and it tells nothing where memory was refused

@@ -5,7 +5,7 @@ ghost use Rattle.std.specs.Option.{option_copied};
 ghost use Rattle.khe_base.specs.Text.{is_ascii};
 ghost use Rattle.fault_tables.specs.Causes as spec;
 
-/// The durations of an event's entries, up to this one, exceed the event's.
+/// The durations of the event's entries, up to this one, add up to more than the event's.
 pub const TOO_LONG: u32 = 1;
 
 /// The event has a preassigned time, and this entry is shorter than the event.
@@ -27,8 +27,8 @@ pub const FIXED_RESOURCE: u32 = 6;
 /// The entry gives a resource of another type than the event wants there.
 pub const WRONG_TYPE: u32 = 7;
 
-/// The name of the cause with a number, as lines print it, in constant time. A number that no cause
-/// has has no name.
+/// The name that lines print for the cause with this number, or `None` where no cause has it. It takes constant
+/// time.
 pub fn cause_name(cause: u32) -> Option<&'static str>
     ensures name { option_copied result ≡ spec.cause_name cause }
     ensures ascii { IfSome result (λ name. IsTrue (is_ascii name.now)) }

@@ -44,16 +44,16 @@ pub const BAD_NUMBER: u32 = 10;
 /// element's value; or text where elements are to stand, at its first byte that is not white.
 pub const BAD_WORD: u32 = 11;
 
-/// An Id that a part of the same sort has too.
+/// An Id that an earlier part of the same sort has.
 pub const DUPLICATE_ID: u32 = 12;
 
 /// A reference that names nothing.
 pub const UNKNOWN_REFERENCE: u32 = 13;
 
-/// A role that an earlier place of the same event has too.
+/// A role that an earlier place of the same event has.
 pub const DUPLICATE_ROLE: u32 = 14;
 
-/// A preassigned time from which the event would go on beyond the last time.
+/// A preassigned time so late that the event would run past the last time.
 pub const EVENT_OFF_END: u32 = 15;
 
 /// A size above its limit.
@@ -62,26 +62,26 @@ pub const LIMIT: u32 = 16;
 /// More bytes than the greatest archive has.
 pub const TOO_LARGE: u32 = 17;
 
-/// A number of a solution that the archive does not have.
+/// The number of a solution that the archive does not have.
 pub const NO_SUCH_SOLUTION: u32 = 18;
 
 /// A solution that is invalid, where a valid one is asked for.
 pub const INVALID: u32 = 19;
 
-/// A number of an instance that the archive does not have.
+/// The number of an instance that the archive does not have.
 pub const NO_SUCH_INSTANCE: u32 = 21;
 
-/// A number of a time that the instance does not have.
+/// The number of a time that the instance does not have.
 pub const NO_SUCH_TIME: u32 = 22;
 
-/// A number of a resource type that the instance does not have.
+/// The number of a resource type that the instance does not have.
 pub const NO_SUCH_TYPE: u32 = 23;
 
 /// More tasks of one time than can be matched.
 pub const TOO_MANY_TO_MATCH: u32 = 24;
 
-/// The name of the kind of faults with a number, as lines print it, in constant time. A number that
-/// no kind has has no name.
+/// The name that lines print for the kind of fault with this number, or `None` where no kind has it. It takes
+/// constant time.
 pub fn fault_name(kind: u32) -> Option<&'static str>
     ensures name { option_copied result ≡ spec.fault_name kind }
     ensures ascii { IfSome result (λ name. IsTrue (is_ascii name.now)) }

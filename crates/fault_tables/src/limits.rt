@@ -62,7 +62,7 @@ pub struct Limit {
     pub greatest: u64,
 }
 
-/// The limit with a number, in constant time. A number that no limit has has none.
+/// The limit with this number, or `None` where no limit has it. It takes constant time.
 pub fn limit_numbered(which: u32) -> Option<Limit>
     ensures name { option_map (λ l. l.name.now) result ≡ spec.limit_name which }
     ensures ascii { IfSome result (λ l. IsTrue (is_ascii l.name.now)) }
@@ -89,8 +89,8 @@ pub fn limit_numbered(which: u32) -> Option<Limit>
     }
 }
 
-/// The name of the limit with a number, as lines print it, in constant time. A number that no limit
-/// has has no name.
+/// The name that lines print for the limit with this number, or `None` where no limit has it. It takes constant
+/// time.
 pub fn limit_name(which: u32) -> Option<&'static str>
     ensures name { option_copied result ≡ spec.limit_name which }
     ensures ascii { IfSome result (λ name. IsTrue (is_ascii name.now)) }

@@ -2,11 +2,11 @@
 
 use khe_base::{MeetId, ResourceId, TimeId};
 
-/// What wants one supply, a resource at a time, for itself. The order is that of the variants, and
-/// of one variant by its fields.
+/// What needs one supply, a resource at a time, for itself. Demands are ordered by variant, and within a
+/// variant by its fields.
 #[derive(Clone, Copy, PartialEq, Eq)]
 pub enum Demand {
-    /// A task, at one of the times of its meet: the offset, from 0, says at the how manieth.
+    /// A task, at one of the times of its meet: the offset says how many times later than the meet's start.
     Task {
         meet: MeetId,
         place: u32,

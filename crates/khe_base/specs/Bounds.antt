@@ -1,5 +1,5 @@
--- How far a whole number, also one below 0, lies below the least or above the greatest of two bounds; and the same
--- of a count. Every kind with a minimum and a maximum is defined by it.
+-- How far a whole number, even a negative one, lies below the least or above the greatest of two bounds; and
+-- the same for a count. Every kind with a minimum and a maximum is defined by it.
 use Rattle.std.specs.Prelude.{ℕ, ℤ, pos, neg_ℤ, ◌-ℤ◌, ◌≤ℤ◌, int_lt, unsigned_abs, if◌then◌else◌}
 
 -- below the least or above the greatest; the least comes first where it is above the greatest

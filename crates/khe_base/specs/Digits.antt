@@ -1,4 +1,4 @@
--- The number that decimal digits write, where there are no more of them than may be.
+-- The number that decimal digits spell, where there are not too many of them.
 use Rattle.std.specs.Prelude.{ℕ, ◌+◌, ◌-◌, ◌*◌, ◌^◌, ◌&&◌, Bool, if◌then◌else◌, nat_lt, nat_le, Option, Some, None}
 use Rattle.std.specs.Prelude.{List, [], ◌∷◌, length}
 use Rattle.std.specs.List.{list_all}

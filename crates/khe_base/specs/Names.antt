@@ -1,10 +1,10 @@
--- Names, each the list of its characters, are numbered in the order in which they come. The number of a name is its
--- place; names are distinct where none comes twice.
+-- Names, each the list of its characters, are numbered in the order in which they come. The number of a name is
+-- its place; names are distinct where none comes twice.
 use Rattle.std.specs.Prelude.{ℕ, List, [], ◌∷◌, ◌++◌, Bool, true, not, ◌&&◌, Option, position, if◌then◌else◌}
 use Rattle.std.specs.List.{list_any}
 use Rattle.std.specs.Str.{bytes_eq}
 
--- whether the name is among the names
+-- whether the name is among the names; `bytes_eq` compares any two lists of numbers, here of characters
 abbrev pub is_among_names : List ℕ → List (List ℕ) → Bool
 is_among_names name names = list_any (λ n. bytes_eq name n) names
 

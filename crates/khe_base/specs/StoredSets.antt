@@ -8,14 +8,14 @@ use Rattle.khe_base.specs.IdSet.{IsCounted}
 abbrev pub set_of_bits : List ℕ → ℕ → List Bool
 set_of_bits words size = map (λ n. is_set words n) (range_with_len 0 size)
 
--- bits are set only below the size, and the count is that of the members
+-- what is kept of a set: enough words for the size, no bit set at or beyond it, and the number of members
 pub record IsStored (words : List ℕ) (size count : ℕ) : Type 0 where
   pub room : length words ≡ words_for size
   pub beyond : (n : ℕ) → size ≤ n → is_set words n ≡ false
   pub counted : IsCounted (set_of_bits words size) count
 
--- the numbers whose bits are set in a word, of its lowest so many bits; the lowest is that of the
--- number first
+-- the numbers whose bits are set among the lowest `bits` bits of a word, where the lowest bit is that of the
+-- number `first`
 unfoldable pub members_in : ℕ → ℕ → ℕ → List ℕ
 members_in word first bits = map (λ i. first + i) (filter (has_bit word) (range_with_len 0 bits))
 

@@ -50,7 +50,7 @@ pub fn clear_bit(words: &mut Vec<u64>, n: usize)
     words[n / 64] &= !(1 << (n % 64));
 }
 
-/// How many of the lowest bits of a word are set, of this many, below 64. It takes constant time.
+/// How many of the `place` lowest bits of a word are set. It takes constant time.
 pub fn ones_below(word: u64, place: u32) -> u32
     requires { place < 64 }
     ensures { result ≡ count_ones (word % 2 ^ place) }

@@ -3,9 +3,9 @@
 ghost use Rattle.std.specs.Prelude.{◌≡◌, ◌≤◌, ◌+◌};
 ghost use Rattle.khe_base.specs.Bounds.{IsNearZero, outside, count_outside};
 
-/// How far a number lies outside two bounds: below the least, or else above the greatest, or 0. The
-/// least comes first where it is above the greatest. Each of the three lies between -10^12 and
-/// 10^12.
+/// How far a number lies outside two bounds: below the least, or else above the greatest, or 0. Where the least
+/// exceeds the greatest, a number below the least is measured against the least. All three arguments must lie
+/// between -10^12 and 10^12.
 ///
 /// It takes constant time and no memory. The source is the deviation of the kinds of the XHSTT
 /// format that have a minimum and a maximum.
@@ -24,8 +24,8 @@ pub fn out(n: i64, min: i64, max: i64) -> u64
     }
 }
 
-/// The same for a count, which isn't below 0, and the bounds of a constraint. It takes constant
-/// time and no memory.
+/// How far a count lies outside the bounds of a constraint, as `out` measures it. It takes constant time and no
+/// memory.
 pub fn count_out(count: u64, min: u32, max: u32) -> u64
     requires { count ≤ 1000000000000 }
     ensures exact { result ≡ count_outside count min max }

@@ -1,4 +1,4 @@
-//! Numbers that are written in decimal digits: of scripts, of the command line, and seeds.
+//! Reads decimal numbers in scripts and on the command line, seeds among them.
 
 ghost use Rattle.std.specs.Prelude.{◌≡◌, ◌≤◌, length, IsTrue};
 ghost use Rattle.std.specs.List.{list_all};
@@ -6,9 +6,9 @@ ghost use Rattle.khe_base.specs.Digits as spec;
 
 use crate::limits::DIGITS;
 
-/// The number that a word of 1 to `most` digits writes, or `None` where it writes none, or one of
-/// 2^32 or more. Leading zeros are allowed, a sign is not. It takes time in proportion to the word,
-/// and no memory.
+/// The number spelled by a word of 1 to `most` decimal digits, or `None` where the word is no such number or
+/// the number is 2^32 or more. Leading zeros are allowed, a sign is not. It takes time in proportion to the
+/// word, and no memory.
 #[tactic(auto, unfolding(crate::specs::Digits::number_of))]
 pub fn number_of(most: usize, word: &[u8]) -> Option<u32>
     requires { most ≤ 18 }
@@ -20,8 +20,8 @@ pub fn number_of(most: usize, word: &[u8]) -> Option<u32>
     u32::try_from(value_of(word)).ok()
 }
 
-/// The number that a word of 1 to 18 digits writes, or `None` where it writes none: that of a seed,
-/// which is greater than other numbers. Leading zeros are allowed, a sign is not. It takes time in
+/// The number spelled by a word of 1 to 18 decimal digits, or `None` where the word is no such number: for
+/// seeds, which may need more than 32 bits. Leading zeros are allowed, a sign is not. It takes time in
 /// proportion to the word, and no memory.
 #[tactic(auto, unfolding(crate::specs::Digits::long_number_of))]
 pub fn long_number_of(word: &[u8]) -> Option<u64>

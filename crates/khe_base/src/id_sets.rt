@@ -98,8 +98,7 @@ impl IdSet {
         self.size
     }
 
-    /// A row of bits, in which the bits of the members are set and no other. It takes constant
-    /// time.
+    /// A row of bits in which exactly the members' bits are set. It takes constant time.
     pub fn words(&self) -> &[u64]
         ensures room { length result.now ≡ words_for (length self.now) }
         ensures bits { (n : ℕ) → is_set result.now n ≡ has_member self.now n }

@@ -1,6 +1,6 @@
-//! The greatest sizes of an instance, each with its name. An archive beyond one of them is
-//! refused by that name; within them no sum of durations, deviations or costs overflows. And the
-//! greatest numbers of the command line, and how many bytes go to a device at a time.
+//! The greatest sizes of an instance, each with its name. An archive beyond one of them is refused by that
+//! name; within them no sum of durations, deviations or costs overflows. Also the greatest numbers of the
+//! command line, and how many bytes are read or written at a time.
 
 /// The greatest number of bytes of an archive: 64 MiB.
 pub const ARCHIVE_BYTES: u64 = 67_108_864;
@@ -90,14 +90,14 @@ pub const MADE_EVENTS: u32 = 2_000;
 /// The greatest number of bytes of a script: 16 MiB.
 pub const SCRIPT_BYTES: u64 = 16_777_216;
 
-/// The greatest number of digits of a number on the command line: what they write fits 64 bits.
+/// The greatest number of digits of a number on the command line: the number then fits in 64 bits.
 pub const DIGITS: usize = 18;
 
 /// How many bytes are read or written at a time: 64 KiB.
 pub const PIECE_BYTES: usize = 65_536;
 
-/// The greatest deviation that the limits allow, 4 * 10^11: that of a resource which has all tasks,
-/// each with the greatest workload.
+/// The greatest deviation that the limits allow, 4 * 10^11: the workload of a resource that has all tasks, each
+/// of the greatest workload.
 pub const GREATEST_DEVIATION: u64 = TASKS as u64 * NUMBER as u64;
 
 /// The greatest cost of one monitor that the limits allow: the greatest weight times the square of

@@ -11,9 +11,8 @@ use std::marker::Model;
 /// A set of numbers below a size that stays as it is. Contracts see what they see of an `IdSet`: a list
 /// with one entry for each number below the size, true where it is a member.
 ///
-/// It keeps the list of its members; and where a word of 64 numbers has one of them on average, also
-/// their bits. So it takes memory in proportion to its members, and none where it is empty, whatever
-/// its size.
+/// It keeps the list of its members, and their bits as well where at least one number in 64 is a member. So it
+/// takes memory in proportion to its members, and none where it is empty, whatever its size.
 #[derive(Drop)]
 pub struct ListedSet {
     members: Seq<u32>,
@@ -48,9 +47,9 @@ impl ListedSet {
         })
     }
 
-    /// Whether a number is a member: no number of the size or more is. It takes constant time where a
-    /// word of 64 numbers has a member on average, and else time in proportion to the logarithm of how
-    /// many members there are.
+    /// Whether a number is a member: no number of the size or more is. It takes constant time where at least
+    /// one number in 64 is a member, and otherwise time in proportion to the logarithm of the number of
+    /// members.
     pub fn has(&self, n: u32) -> bool
         ensures below { result ≡ has_member self.now n }
         ensures beyond { length self.now ≤ n → result ≡ false }

@@ -18,8 +18,8 @@ pub struct EventId(pub u32);
 #[derive(Clone, Copy, Debug, PartialEq, Eq, PartialOrd, Ord, Hash)]
 pub struct MeetId(pub u32);
 
-/// The number of a monitor: constraints in the order of the archive, each followed out into its
-/// points, from 0.
+/// The number of a monitor, from 0: monitors are numbered constraint by constraint in the order of the archive,
+/// and within a constraint in the order of its points.
 #[derive(Clone, Copy, Debug, PartialEq, Eq, PartialOrd, Ord, Hash)]
 pub struct MonitorId(pub u32);
 

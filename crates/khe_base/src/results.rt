@@ -6,9 +6,9 @@ use crate::NoMemory;
 
 /// Both values, where both could be made. Where memory was refused to one, the other is dropped.
 ///
-/// It takes constant time and no memory. A record of many parts that own memory is made from nested
-/// pairs, with one `?` at the end: then what was made beside a refusal is dropped here, and not at
-/// an exit for each part. All parts are tried, also after a refusal.
+/// It takes constant time and no memory. A record of many parts that own memory is made from nested pairs, with
+/// one `?` at the end: so what was already made is dropped here when memory is refused, and not at an exit for
+/// each part. All parts are tried, even after a refusal.
 pub fn both<A: Drop, B: Drop>(
     first: Result<A, NoMemory>,
     second: Result<B, NoMemory>,

@@ -1,5 +1,5 @@
 //! A check, when the program is compiled, that a type may be read by several threads.
 
-/// Shows that a type may be handed to threads, which read its values together: a call of this with
-/// a value of the type is accepted only where it may be. It does nothing.
+/// Checks at compile time that several threads may read values of a type together: a call with a value of any
+/// other type is rejected. It does nothing when the program runs.
 pub fn lends_to_threads<T: Send + Sync>(_value: &T) {}

@@ -71,7 +71,8 @@ impl Text {
         self.items.as_str()
     }
 
-    /// Its bytes in UTF-8, by the characters that they spell. It takes constant time.
+    /// Its bytes in UTF-8, as `as_str` gives them; the contract says which characters they spell. It takes
+    /// constant time.
     pub fn spelling(&self) -> &str
         ensures { characters result.now ≡ self.now }
     {
@@ -139,9 +140,8 @@ impl Text {
         self.push_str(text)
     }
 
-    /// Adds a number in decimal digits at the end, with no leading zero. Where memory is refused,
-    /// the text stays as it was. Numbers of at most 64 bits, nearly all, are written by the
-    /// shorter way.
+    /// Adds a number in decimal digits at the end, with no leading zero. Where memory is refused, the text
+    /// stays as it was. Numbers of at most 64 bits, which are nearly all, take a faster path.
     pub fn push_number(&mut self, number: u128) -> Result<(), NoMemory>
         ensures ok { OnOk result (self.new ≡ self.old ++ decimal number) }
         ensures err { OnErr result (self.new ≡ self.old) }

@@ -47,8 +47,8 @@ fn copy_out(answer: &[u8], room: &mut [u8], answer_length: &mut u64) -> u32
     DONE
 }
 
-/// What an open handle on this archive is to hold: a session, or the line that refuses it. Its only error is want of
-/// memory.
+/// What an open handle on this archive is to hold: a session, or the line that refuses it. It fails only where
+/// memory is refused.
 fn opened(alloc: Global, archive: &[u8], solution: u32) -> Result<Box<Held>, NoMemory>
     ensures { IfOk result (λ b. IsOpenedOn archive.now solution b.value ⊎ IsRefusedOn archive.now solution b.value) }
 {

@@ -43,8 +43,8 @@ pub(crate) enum Unanswered {
 }
 
 impl Held {
-    /// Opens a session on the solution with this number, or keeps the line that refuses it. Its only error is want
-    /// of memory. It takes the time of reading the archive and of evaluating the solution.
+    /// Opens a session on the solution with this number, or keeps the line that refuses it. It fails only where
+    /// memory is refused. It takes the time of reading the archive and of evaluating the solution.
     pub(crate) fn open(alloc: Global, archive: &[u8], solution: u32) -> Result<Held, NoMemory>
         ensures { IfOk result (λ k. IsOpenedOn archive.now solution k ⊎ IsRefusedOn archive.now solution k) }
     {

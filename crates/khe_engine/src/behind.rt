@@ -1,5 +1,5 @@
-//! An engine that is behind: its timetable, marks and ways back stand, and what they cost is known again once it has
-//! caught up.
+//! An engine that is behind: its timetable, marks and undo records are up to date, and its costs are known
+//! again once it has caught up.
 
 ghost use Rattle.std.specs.Prelude.{◌≡◌, ◌≤◌, ◌+◌};
 
@@ -16,11 +16,11 @@ use std::marker::Model;
 use std::sync::ledger::Ledger;
 use undo_paths::Journal;
 
-/// An engine that is not asked for a while what the timetable costs. It is edited, and has marks, as an engine has
-/// (`Edited`), and answers as that does; but its families follow, and its monitors are measured, only once it has
-/// caught up: each slot and each monitor once, whatever the number of edits that it was in, and for what was undone
-/// before not at all. Contracts see the world of an engine, and how many steps it owes at most: the watchers of the
-/// changes that it was told and has not measured, which a change that is taken back lowers.
+/// An engine that is not asked for costs for a while. It is edited and has marks as an engine does (`Edited`),
+/// with the same answers; but its families follow the edits, and its monitors are measured, only when it
+/// catches up: each slot and each monitor once, whatever the number of edits since, and nothing at all for
+/// edits that were undone meanwhile. Contracts see the world of an engine, and how many steps it owes at most:
+/// the watchers of the changes that it was told and has not measured, which a change that is taken back lowers.
 ///
 /// An edit takes the time of its check and of its changes. A thousand changes are kept; the edit that finds no room
 /// for its own takes the time of all of them. Where an event has more than 64 places each edit is followed at once:

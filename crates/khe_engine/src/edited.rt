@@ -13,9 +13,9 @@ use crate::faults::EditFault;
 use khe_told::{Edit, Family, Refusal, Steps};
 use std::sync::ledger::Ledger;
 
-/// What is edited and has marks: an engine, or one that is put off. Each call says of its world what the engine's
-/// call of that name says, and where an error comes that is as there. What an engine takes as steps at once may be
-/// owed here: the steps that are taken and those that are owed together grow by no more.
+/// What is edited and has marks: an engine, or one that is put off. Each call says of its world what the
+/// engine's call of that name says, and fails where that one fails. Steps that an engine takes at once may be
+/// owed here: the steps taken and the steps owed together grow by no more than an engine's.
 pub trait Edited {
     /// What it stands for.
     ghost world: { Self → World };

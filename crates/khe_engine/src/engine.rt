@@ -155,8 +155,8 @@ impl<'i, F: Family> Engine<'i, F> {
         )
     }
 
-    /// The totals that an accepted edit of meets and tasks would leave. The engine stays as it is. It
-    /// takes no memory, and as long as the edit and its undoing take but for what costs are kept of.
+    /// The totals that an accepted edit of meets and tasks would leave. The engine stays as it is. It takes no
+    /// memory, and at most the time of the edit and its undo.
     pub fn totals_after(&mut self, edit: &Edit) -> Totals
         requires ours { is_of_meets edit.now ≡ true }
         requires accepted { meets_refusal self.old.parts self.old.state.slots edit.now ≡ None }
@@ -306,7 +306,8 @@ impl<'i, F: Family> Engine<'i, F> {
 }
 
 impl<'i, F: Family> Engine<'i, F> {
-    /// The same, which measures nothing until it has caught up. It owes no step, and takes constant time and no memory.
+    /// The same engine, put off: it measures nothing until it catches up. It owes no step yet. The call takes
+    /// constant time and no memory.
     pub fn put_off(self) -> Behind<'i, F>
         ensures same { result.world ≡ self.entry }
         ensures owed { result.owed ≡ 0 }

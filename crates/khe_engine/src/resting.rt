@@ -52,7 +52,7 @@ impl<F: Family> Model for Resting<F> {
 }
 
 impl<F: Family> Resting<F> {
-    /// The engine again, on an instance that reads as the one that it was opened on. It takes constant time and no
+    /// The engine again, on an instance equal to the one that it was opened on. It takes constant time and no
     /// memory.
     pub fn wake<'i>(self, inst: &'i Instance) -> Engine<'i, F>
         requires serves { ServesAll F.serves_kind }

@@ -26,7 +26,7 @@ impl<'i, F: DemandKeeper> Engine<'i, F> {
     /// The demands that compete: those in every set whose excess over its supplies is the deficit, in
     /// their order.
     ///
-    /// Its only error is want of memory. It takes memory for a mark for each demand, and time in
+    /// It fails only where memory is refused. It takes memory for a mark for each demand, and time in
     /// proportion to the demands.
     pub fn hall(&self) -> Result<Seq<Demand>, NoMemory>
         ensures { IfOk result (AreCompeting self.now.parts self.now.state.slots) }
@@ -39,8 +39,8 @@ impl<'i, F: Family> Engine<'i, F> {
     /// What is short, for families that keep no demands: the demands are opened and told of the whole
     /// timetable.
     ///
-    /// Its only error is want of memory. It takes what opening demands takes, and time for a change of
-    /// the matching for each meet, start and assignment.
+    /// It fails only where memory is refused. It takes what opening demands takes, and time for a change of the
+    /// matching for each meet, start and assignment.
     pub fn shortage(&self, alloc: Global) -> Result<Shortage, NoMemory>
         ensures { IfOk result (IsShortageOf self.now.parts self.now.state.slots) }
     {

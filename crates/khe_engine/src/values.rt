@@ -66,8 +66,8 @@ impl<'i, F: Family> Engine<'i, F> {
         self.listeners.graph.next_defect(from)
     }
 
-    /// Marks the costs that stand, to be compared with from here on. It takes time in proportion to
-    /// the monitors whose costs changed since they were marked, and to a 4096th of all.
+    /// Marks the present costs, with which later ones are compared. It takes time in proportion to the monitors
+    /// whose costs changed since they were marked, and to a 4096th of all.
     #[tactic(auto, using(crate::proofs::ValueLaws::costs_same))]
     pub fn compare_from_here(&mut self)
         ensures parts { self.new.parts ≡ self.old.parts }
@@ -79,8 +79,8 @@ impl<'i, F: Family> Engine<'i, F> {
         self.listeners.graph.compare_from_here();
     }
 
-    /// The only monitor that costs more than marked, in constant time; `None` where none does, or
-    /// several do.
+    /// The only monitor that costs more than when costs were marked, in constant time; `None` where none does,
+    /// or several do.
     pub fn only_dearer(&self) -> Option<MonitorId>
         ensures { result ≡ only_dearer self.now.parts self.now.state self.now.marked }
     {

@@ -1,4 +1,4 @@
--- Lists of numbers by a number, and by two, while numbers are added to them.
+-- Lists of numbers, one for each key or pair of keys, while numbers are added to them.
 use Rattle.std.specs.Prelude.{ℕ, ◌≡◌, ◌<◌, ◌++◌, ◌∷◌, [], if◌then◌else◌, Bool, List, length, slice_index_or}
 use Rattle.std.specs.List.{filter, range_with_len}
 

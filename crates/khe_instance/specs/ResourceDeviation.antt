@@ -10,7 +10,9 @@ use Rattle.khe_instance.specs.Running.{is_resource}
 use Rattle.khe_instance.specs.declared.states.Duty.{Duty}
 use Rattle.khe_instance.specs.declared.parts.EventInfo.{EventInfo}
 
--- whether some of the resource's tasks run at a time
+-- whether the resource is busy at a time. Here and below `counts` gives for each time how many of the
+-- resource's tasks run then, and a set of times is a list with one entry for each time, true where it is a
+-- member
 abbrev pub busy_by : (ℕ → ℕ) → ℕ → Bool
 busy_by counts t = nat_lt 0 (counts t)
 
@@ -42,8 +44,9 @@ abbrev pub limit_busy_times : (ℕ → ℕ) → List (List Bool) → ℕ → ℕ
 limit_busy_times counts groups least greatest =
     sum_by (λ g. used_outside (busy_times (busy_by counts) g) least greatest) groups
 
--- what a task is worth to its resource, in parts of one over the unit: the workload of its place
--- times its meet's share of the event's duration
+-- what a task is worth to its resource, in parts of one over the unit: the workload of its place times its
+-- meet's share of the event's duration. The unit is the least common multiple of all durations, so that the
+-- share is a whole number of parts and only the sum is rounded
 abbrev pub workload_of : List EventInfo → ℕ → Duty → ℕ
 workload_of events unit d =
     option_map_or (λ event. option_map_or (λ p. p.workload * d.meet.duration * (unit / event.duration))

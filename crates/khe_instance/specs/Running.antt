@@ -1,5 +1,5 @@
--- A meet with a start runs from then on for its duration, and a task with its meet is a duty. A resource is busy at
--- a time where a duty of it runs then.
+-- A meet with a start runs from then on for its duration. A duty is a task with its meet, and a resource is
+-- busy at a time where one of its duties runs then.
 use Rattle.std.specs.Prelude.{ℕ, ◌+◌, ◌==◌, Bool, false, ◌&&◌, nat_lt, nat_le, Option, Some, None, List}
 use Rattle.std.specs.List.{filter, flat_map, list_any, count_by}
 use Rattle.std.specs.Prelude.{map}

@@ -1,6 +1,6 @@
--- What parts must keep to be an instance, each fact with a name: every number names something, every set has its
--- size, Ids and roles are distinct, monitors stand in the order of their constraints with points of their kinds, and
--- the limits are kept.
+-- What must hold of parts for them to be an instance, each fact with a name: every number names something,
+-- every set has its size, Ids and roles are distinct, monitors stand in the order of their constraints with
+-- points of their kinds, and the limits are kept.
 use Rattle.std.specs.Prelude.{ℕ, ◌+◌, ◌*◌, ◌≡◌, ◌≢◌, ◌<◌, ◌≤◌, ◌==◌, ◌⊎◌, Bool, true, Some, List, [], ◌∷◌, map, length}
 use Rattle.std.specs.Prelude.{All, AllPairs, slice_get, IfSome, IsSome}
 use Rattle.std.specs.List.{filter, filter_map, sum_by, range_with_len}

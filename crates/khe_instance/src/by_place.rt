@@ -11,11 +11,10 @@ use crate::points::Point;
 use khe_base::{EventId, MonitorId, NoMemory, Seq};
 use std::alloc::Global;
 
-/// The monitors of an instance at each place of each event: those that a give or a take there may
-/// change, but for those of event groups. A row of the table is an event, a column a place of it.
+/// The monitors of an instance at each place of each event: the ones that giving or taking a resource there may
+/// change, except monitors of event groups. A row of the table is an event, a column a place of it.
 ///
-/// It is made for whoever asks for it, in time and memory in proportion to the events, their places and
-/// the monitors.
+/// It takes time and memory in proportion to the events, their places and the monitors.
 pub fn monitors_by_place(alloc: Global, inst: &Instance) -> Result<MonitorTable, NoMemory>
     ensures { IfOk result (λ table. AreByPlace inst.now table) }
 {

@@ -1,4 +1,4 @@
-//! The monitors of an instance by the resources and the times whose changes they hear of.
+//! The monitors of an instance by the resources and the times that they watch.
 
 ghost use Rattle.std.specs.Prelude.{◌≡◌, ◌<◌, ◌≤◌, ◌+◌, ◌*◌, ◌==◌, ◌^◌, ◌&&◌, [], length, map, nat_lt, count_by, replicate, slice_index_or, IfOk, OnOk};
 ghost use Rattle.khe_base.specs.Bits.{words_for};
@@ -18,13 +18,12 @@ use crate::rules::Rule;
 use khe_base::{IdSet, MonitorId, NoMemory, Seq};
 use std::alloc::Global;
 
-/// The monitors of an instance at each resource that list a time, by words of 64 times: those that a
-/// change at the resource and a time of the word may change. A row of the table is a resource, a column
-/// a word.
+/// The monitors of an instance at each resource that list a time, by words of 64 times: the ones that a change
+/// at the resource and at a time of the word may change. A row of the table is a resource, a column a word.
 ///
-/// It is made for whoever asks for it, in memory in proportion to the resources, the words of all
-/// resources together, a 64th of the cells, and what the monitors watch, and in time in proportion to
-/// these and to the times of all sets that the constraints list.
+/// It takes memory in proportion to the resources, the words of all resources together, a 64th of the cells,
+/// and what the monitors watch, and time in proportion to these and to the times of all sets that the
+/// constraints list.
 pub fn monitors_by_time(alloc: Global, inst: &Instance) -> Result<MonitorTable, NoMemory>
     ensures { IfOk result (λ table. AreByTime inst.now table) }
 {
@@ -39,7 +38,7 @@ pub fn monitors_by_time(alloc: Global, inst: &Instance) -> Result<MonitorTable, 
     Ok(table)
 }
 
-/// A table of so many rows with a list without monitors for each of so many words.
+/// A table with an empty list of monitors in each row for each word.
 fn no_monitors(alloc: Global, rows: u32, words: u32) -> Result<MonitorTable, NoMemory>
     ensures { IfOk result (λ table. table ≡ replicate rows (replicate words [])) }
 {

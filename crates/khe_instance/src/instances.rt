@@ -23,8 +23,8 @@ use std::marker::Model;
 /// An instance: parts that are well made. It does not change. Contracts see its parts.
 ///
 /// It has the Ids of its parts by their numbers, and no table that leads from an Id to a number: references are
-/// followed where an archive is read, once. No call but `new` takes memory, and each takes constant time but for
-/// `task`.
+/// followed once, when an archive is read. No call but `new` takes memory, and each but `task` takes constant
+/// time.
 pub struct Instance {
     parts: Parts,
     slots: SlotTable,
@@ -173,9 +173,8 @@ impl Instance {
         self.slots.task_slots()
     }
 
-    /// The number of the first task of a meet slot. Task slots are numbered by meet slot and then
-    /// place, so the tasks of a meet slot have this number and those that follow it, one for each
-    /// place of its event.
+    /// The number of the first task of a meet slot. Task slots are numbered by meet slot and then place, so the
+    /// tasks of a meet slot have this number and the numbers that follow it, one for each place of its event.
     pub fn first_task(&self, meet: MeetId) -> u32
         requires { meet.0 < sum_by (λ e. e.duration) self.now.events }
         ensures { result ≡ first_task self.now.events meet.0 }
@@ -183,8 +182,7 @@ impl Instance {
         self.slots.first_task(self.parts.events.as_slice(), meet)
     }
 
-    /// The task with this number, in time in proportion to the logarithm of how many events there
-    /// are.
+    /// The task with this number, in time in proportion to the logarithm of the number of events.
     pub fn task(&self, number: u32) -> TaskId
         requires { number < sum_by (λ e. e.duration * length e.places) self.now.events }
         ensures { slice_get (all_tasks self.now.events) number ≡ Some result }

@@ -1,4 +1,4 @@
-//! Lists of numbers by a number, while they are made.
+//! Lists of numbers, one for each key, while they are filled.
 
 ghost use Rattle.std.specs.Prelude.{◌≡◌, ◌<◌, ◌==◌, [], length, replicate, IfOk, OnOk};
 ghost use Rattle.khe_instance.specs.Listing.{IsAdded};
@@ -6,7 +6,7 @@ ghost use Rattle.khe_instance.specs.Listing.{IsAdded};
 use khe_base::{NoMemory, Seq};
 use std::alloc::Global;
 
-/// So many empty lists.
+/// The given number of empty lists.
 pub(crate) fn no_lists(alloc: Global, count: usize) -> Result<Seq<Seq<u32>>, NoMemory>
     ensures { IfOk result (λ lists. lists ≡ replicate count []) }
 {

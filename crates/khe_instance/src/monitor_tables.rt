@@ -1,4 +1,4 @@
-//! Tables of monitors by two numbers, as an event and a place of it.
+//! Tables of monitors by two numbers, such as an event and a place of it.
 
 ghost use Rattle.std.specs.Prelude.{◌≡◌, ◌<◌, ◌==◌, ◌&&◌, [], length, slice_index_or, IfOk, OnOk};
 ghost use Rattle.khe_instance.specs.Listing.{IsAddedAt, list_at};

@@ -16,11 +16,11 @@ pub struct ResourceInfo {
 #[derive(Drop)]
 pub struct GroupInfo {
     pub id: Text,
-    /// As large as the instance has events.
+    /// A set over all events of the instance.
     pub events: ListedSet,
 }
 
-/// One of the resources that an event wants.
+/// One of the resources that an event needs.
 #[derive(Drop)]
 pub struct Place {
     /// What the resource is to be in the event. Without one the place is preassigned.

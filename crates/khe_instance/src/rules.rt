@@ -41,8 +41,8 @@ pub struct EventPair {
     pub max: u32,
 }
 
-/// What a constraint asks for, by its kind. Sets of times are as large as the instance has times,
-/// sets of resources as it has resources.
+/// What a constraint asks for, by its kind. A set of times is over all times of the instance, a set of
+/// resources over all its resources.
 #[derive(Drop)]
 pub enum Rule {
     AssignTime,

@@ -1,5 +1,5 @@
--- A fault was counted where the count grew, or stood at its last value already. A sink took bytes where what it
--- tells is what it told before and then these bytes.
+-- A fault was counted where the count grew, or already stood at its greatest value. A sink took bytes where
+-- what it tells now is what it told before, followed by these bytes.
 use Rattle.std.specs.Prelude.{◌≡◌, ℕ, ◌-◌, ◌^◌, ◌<◌, List, ◌++◌, Option, ◌⊎◌}
 use Rattle.std.specs.Option.{option_map}
 

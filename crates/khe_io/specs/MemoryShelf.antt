@@ -1,5 +1,5 @@
--- A shelf in memory as a value: its files, its piece, the calls that fail, its counts, and what is left of the open
--- file. And what each call answers and makes of it.
+-- A shelf in memory as a value: its files, its piece, the calls that fail, its counts, and what is left of the
+-- open file. Also what each call answers, and the shelf after it.
 use Rattle.std.specs.Prelude.{ℕ, Bool, ◌||◌, if◌then◌else◌, List, ◌++◌, length, take, drop, min, Option, None}
 use Rattle.std.specs.Prelude.{Some, is_none, is_some, IsTrue, IsSome, refl}
 use Rattle.std.specs.Option.{option_map, option_map_or}
@@ -58,7 +58,7 @@ after_open s name = record {
 abbrev pub given : ShelfState → ℕ → ℕ
 given s room = option_map_or (λ rest. min (min (length rest) room) s.piece) s.left 0
 
--- the bytes of a buffer after a read: those that were given, and the others as they were
+-- the bytes of a buffer after a read: the bytes that were given, and the others as they were
 abbrev pub filled : ShelfState → List ℕ → List ℕ
 filled s buf = option_map_or (λ rest. take (given s (length buf)) rest ++ drop (given s (length buf)) buf) s.left buf
 

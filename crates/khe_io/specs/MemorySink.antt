@@ -1,5 +1,5 @@
--- A sink in memory as a value: the bytes that it took, its room, its piece, the calls that fail, and its counts. And
--- what a write answers and makes of it.
+-- A sink in memory as a value: the bytes that it took, its room, its piece, the calls that fail, and its
+-- counts. Also what a write answers, and the sink after it.
 use Rattle.std.specs.Prelude.{ℕ, ◌-◌, ◌==◌, Bool, ◌||◌, if◌then◌else◌, List, ◌++◌, length, take, min}
 use Rattle.khe_io.specs.Calls.{fails_next, one_more, faults_after}
 use Rattle.khe_io.specs.declared.memory_sink.MemorySink.{MemorySink}

@@ -1,4 +1,4 @@
--- What stands under a name in a list of named files, of which the first counts where two have one name.
+-- What stands under a name in a list of named files; of two files with the same name the first counts.
 use Rattle.std.specs.Prelude.{ℕ, zero, suc, ◌<◌, ◌≤◌, List, [], ◌∷◌, length, drop, find, encode_utf8_all, Option}
 use Rattle.std.specs.Option.{option_map}
 use Rattle.std.specs.Str.{bytes_eq}

@@ -7,8 +7,8 @@ use std::io::Read;
 use std::rt::Files;
 use std::{fs, io};
 
-/// The files of the system as a shelf: the bytes of a name are a path. It tells nothing of what
-/// stands in the files, counts each error as a fault, and is never sound.
+/// The files of the system as a shelf: the bytes of a name are a path. It does not tell what stands in the
+/// files, counts each error as a fault, and is never sound.
 #[derive(Drop)]
 pub struct FileShelf<'a, R: Files> {
     system: &'a R,

@@ -27,12 +27,12 @@ impl MemoryShelf {
     ghost use Rattle.khe_io.specs.MemoryShelf.{state_of};
     ghost use Rattle.khe_io.specs.Named.{bytes_under};
 
-    /// A shelf with these files, of which the first counts where two have one name. No source is
-    /// open and no fault is counted. A read gives at most `piece` bytes. `failing` has the numbers
-    /// of the calls that fail: the calls of `open` and `read` are counted together from 1.
+    /// A shelf with these files; of two with the same name the first counts. No source is open and no fault is
+    /// counted. A read gives at most `piece` bytes. `failing` has the numbers of the calls that fail: the calls
+    /// of `open` and `read` are counted together from 1.
     ///
-    /// Neither this nor any call of the shelf takes memory. An opening looks at one file after
-    /// another, and every call at each number of `failing`.
+    /// Neither this nor any call of the shelf takes memory. Opening goes through the files one by one, and
+    /// every call goes through the numbers of `failing`.
     pub fn new(files: Seq<Named>, piece: u32, failing: Seq<u64>) -> MemoryShelf
         requires { 1 ≤ piece }
         ensures holdings { ⟦<MemoryShelf as Shelf>⟧.holdings result ≡ Some (bytes_under files) }

@@ -7,8 +7,8 @@ use crate::{Failed, Sink};
 use khe_base::{NoMemory, Seq};
 use std::alloc::Global;
 
-/// A sink that keeps what it takes in memory. It takes a given number of bytes at most in all and in
-/// a write, and fails at the calls that it is told to fail at. It tells everything.
+/// A sink that keeps what it takes in memory. It takes at most a given number of bytes in all and in each
+/// write, and fails at the calls that it is told to fail at. It tells everything.
 #[derive(Drop)]
 pub struct MemorySink {
     taken: Vec<u8>,
@@ -23,12 +23,12 @@ impl MemorySink {
     ghost use Rattle.std.specs.Prelude.{[], Some, IfOk};
     ghost use Rattle.khe_io.specs.MemorySink.{state_of};
 
-    /// A sink with room for the given number of bytes, all of which is taken from memory here. It took nothing,
-    /// and no fault is counted. A write takes at most `piece` bytes. `failing` has the numbers of
+    /// A sink with room for the given number of bytes, all of which is taken from memory here. Nothing was
+    /// taken yet, and no fault is counted. A write takes at most `piece` bytes. `failing` has the numbers of
     /// the calls that fail: the calls of `write` are counted from 1.
     ///
-    /// A write where the room is full is a fault, and one that is longer than the room left takes
-    /// what fits. No call of the sink takes memory, and each looks at the numbers of `failing`.
+    /// A write to a full sink is a fault, and a write that is longer than the room left takes what fits. No
+    /// later call takes memory, and each goes through the numbers of `failing`.
     pub fn new(
         alloc: Global,
         room: u64,

@@ -7,8 +7,8 @@ use crate::{Failed, Sink};
 use std::io;
 use std::io::Write;
 
-/// The standard output as a sink. It tells nothing of what was taken, flushes each write, and
-/// counts each error and each write of nothing as a fault.
+/// The standard output as a sink. It does not tell what it took, flushes each write, and counts each error and
+/// each write of no bytes as a fault.
 #[derive(Drop)]
 pub struct StdSink<'a, R: Print> {
     system: &'a R,

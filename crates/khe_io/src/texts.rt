@@ -54,8 +54,8 @@ impl From<AllocError> for TakeFault {
 /// the first piece beyond the limit. `NoMemory` comes where memory is refused. After any answer the
 /// shelf holds what it held.
 ///
-/// The cost is that of the reads, of `PIECE_BYTES` each where the shelf gives as much, and of copying
-/// each byte once; the memory is at most about twice the text's, and a piece.
+/// It costs the reads, of `PIECE_BYTES` each where the shelf gives as much, and copying each byte once; the
+/// memory is at most about twice the text's, and a piece.
 pub fn take_all<S: Shelf>(
     alloc: Global,
     shelf: &mut S,

@@ -17,7 +17,7 @@ pub enum SessionFault {
     /// Memory was refused: the session is spent from here on.
     #[error("out of memory")]
     NoMemory,
-    /// Memory was refused to a line before, or the session answered 2^64 - 1 lines.
+    /// Memory was refused to an earlier line, or the session answered 2^64 - 1 lines.
     #[error("the session is spent")]
     Spent,
 }

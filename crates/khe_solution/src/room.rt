@@ -32,9 +32,9 @@ fn most_places(inst: &Instance) -> usize
     most
 }
 
-/// An empty list with the room that the longest list of changes of an edit needs. Its only error is
-/// want of memory. It takes memory in proportion to the places of the event that has most of them, and
-/// time in proportion to the events.
+/// An empty list with room for the longest list of changes that an edit can have. Its only error is that memory
+/// is refused. It takes memory in proportion to the most places that an event has, and time in proportion to
+/// the events.
 pub fn room_for(alloc: Global, inst: &Instance) -> Result<Vec<Change>, NoMemory>
     ensures { IfOk result (λ list. HasRoom inst.now (vec_capacity list)) }
 {

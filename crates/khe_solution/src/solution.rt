@@ -32,8 +32,8 @@ use std::alloc::Global;
 use std::marker::Model;
 use std::sync::ledger::Ledger;
 
-/// A timetable that is edited. It stands whole at every moment: contracts see the parts of its
-/// instance and its slots, which are valid.
+/// A timetable that is edited. It is complete at every moment: contracts see the parts of its instance and its
+/// slots, which are valid.
 ///
 /// No call but `open` takes memory. An edit takes time in proportion to the places of its meets.
 pub struct Solution<'i> {
@@ -242,7 +242,7 @@ impl<'i> Solution<'i> {
     }
 }
 
-/// A timetable that has let go of its instance, and wakes on it again.
+/// A timetable that has let go of its instance, and can be resumed on it.
 #[derive(Drop)]
 pub struct RestingSolution {
     slots: Slots,

@@ -1,6 +1,6 @@
--- A turn makes one meet slot another at once, between two told states. It is watched by the monitors that name the
--- slot's event, that list a time at which it changes what their resource does, or that limit a workload which it
--- changes.
+-- A turn replaces one meet slot by another in a single step, between two told states. It is watched by the
+-- monitors that name the slot's event, that list a time at which it changes what their resource does, or that
+-- limit a workload which it changes.
 use Rattle.std.specs.Prelude.{ℕ, ◌≡◌, ◌⊎◌, ◌<◌, Bool, true, Option, Some, List, length, slice_get, slice_set}
 use Rattle.std.specs.List.{list_any}
 use Rattle.std.specs.Option.{option_map}

@@ -19,7 +19,7 @@ pub record Waiters : Type 0 where
 abbrev pub waits_in : Waiters → ℕ → Bool
 waits_in w k = slice_index_or w.flags k false
 
--- a list has those that wait, each once, and no other
+-- a list has the monitors that wait, each once, and no other
 pub record AreListedOnce (list : List MonitorId) (flags : List Bool) : Type 0 where
   pub once : (k : ℕ) → count_by (λ (m : MonitorId). nat_eq m.0 k) list ≡ (if slice_index_or flags k false then 1 else 0)
   pub amount : length list ≡ count_by (λ (b : Bool). b) flags
@@ -29,6 +29,6 @@ abbrev pub AreUnmoved : Parts → (Kind → Bool) → (ℕ → Bool) → List Sl
 AreUnmoved p served waits old new = (i : ℕ) (m : Monitor) → slice_get p.monitors i ≡ Some m → served m.kind ≡ true
     → waits i ≡ false → deviation_in p new m ≡ deviation_in p old m
 
--- those that waited still wait
+-- the monitors that waited still wait
 abbrev pub WaitOn : (ℕ → Bool) → (ℕ → Bool) → Type 0
 WaitOn old new = (k : ℕ) → old k ≡ true → new k ≡ true

@@ -1,6 +1,6 @@
--- The watchers of a change, as a count for each monitor: once where it names the change's event, once for each time
--- that it lists at which the change makes its resource busier or less busy, and once more where it limits the
--- workload of a resource that is given or taken.
+-- The watchers of a change, counted for each monitor: once where it names the change's event, once for each
+-- time on its list at which the change makes its resource busier or less busy, and once more where it limits
+-- the workload of a resource that is given or taken.
 use Rattle.std.specs.Prelude.{ℕ, ◌≡◌, ◌≤◌, ◌⊎◌, ◌+◌, ◌*◌, Bool, true, if◌then◌else◌, Some, None, List, [], ◌∷◌, slice_get}
 use Rattle.std.specs.List.{sum_by, count_by, filter_map, range_with_len}
 use Rattle.std.specs.Option.{option_map_or}

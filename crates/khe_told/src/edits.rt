@@ -27,9 +27,9 @@ pub enum Edit {
     Regive { task: TaskId, resource: ResourceId },
     /// Exchanges the resources of two tasks.
     SwapTasks { a: TaskId, b: TaskId },
-    /// Lets a monitor's cost count again.
+    /// Lets the cost of a detached monitor count again.
     Attach { monitor: MonitorId },
-    /// Lets a monitor's cost count no more.
+    /// Leaves a monitor's cost out of all totals.
     Detach { monitor: MonitorId },
     /// Makes a group without children, with the lowest free number.
     MakeGroup,

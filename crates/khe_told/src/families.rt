@@ -19,7 +19,7 @@ use khe_base::{MonitorId, NoMemory};
 use khe_instance::{Instance, Kind};
 use std::alloc::Global;
 
-/// Keeps what the deviations of the monitors of some kinds are read from, edit by edit.
+/// Keeps up to date, edit by edit, what the deviations of the monitors of some kinds are computed from.
 ///
 /// Changes and then their inverses leave the told state as it was, since `turn_all` gives `after_all`.
 pub trait Family {
@@ -29,14 +29,13 @@ pub trait Family {
     /// A fact of the type alone: where it is made of several families, no two serve one kind.
     ghost IsWellJoined: { Type 0 };
 
-    /// The meets and tasks that it was told.
+    /// The meets and tasks of which it was notified.
     ghost told: { Self → List Slot };
 
-    /// That it was opened on the instance with these parts.
+    /// It was opened on the instance with these parts.
     ghost IsOf: { Self → Parts → Type 0 };
 
-    /// A family that was told of no meets. It sizes all that it will need; no other call takes
-    /// memory.
+    /// A family without meets. It takes all the memory that it will need; no other call takes memory.
     fn open(alloc: Global, inst: &Instance) -> Result<Self, NoMemory>
         requires { IsWellJoined }
         ensures of { IfOk result (λ f. IsOf f inst.now) }
@@ -46,9 +45,10 @@ pub trait Family {
     fn serves(&self, kind: Kind) -> bool
         ensures { result ≡ serves_kind kind };
 
-    /// Follows changes that fit one after the other, as an edit makes them, and measures nothing. It queues each
-    /// monitor that it serves whose deviation may have changed, and none that watches none of them. It takes no
-    /// memory, and time linear in the changes and in what is kept for the monitors that watch them.
+    /// Follows changes that fit one after the other, as an edit makes them, and measures nothing. It queues
+    /// each monitor that it serves whose deviation may have changed, and no monitor that watches none of the
+    /// changes. It takes no memory, and time linear in the changes and in what is kept for the monitors that
+    /// watch them.
     fn turn_all<W: Waits>(&mut self, inst: &Instance, changes: &[Change], waits: &mut W)
         requires of { IsOf self.old inst.now }
         requires fit { AllFit inst.now (told self.old) changes.now }

@@ -8,8 +8,9 @@ ghost use Rattle.khe_told.specs.declared.slots.Slot.{Slot};
 
 use crate::changes::Change;
 
-/// The places that may be given something else, in whichever meet, so that a keeper looks at no other place. Each call
-/// takes constant time but `of`.
+/// The places that may be given something else, in whichever meet, so that a keeper looks at no other place. An
+/// edit gives something else at one place, at two, or at all places of its meets, so at most two are kept by
+/// number. Each call but `of` takes constant time.
 #[derive(Clone, Copy)]
 pub enum Places {
     /// No place.

@@ -7,7 +7,7 @@ ghost use Rattle.khe_told.specs.Refusals.{row_of};
 /// Why an edit or a mark is refused.
 #[derive(Clone, Copy, PartialEq, Eq)]
 pub enum Refusal {
-    /// It is no live meet.
+    /// No live meet has this number.
     NoSuchMeet,
     /// The meet is not live, or its event has no such place.
     NoSuchTask,
@@ -15,7 +15,7 @@ pub enum Refusal {
     NoSuchTime,
     /// The instance has no resource of this number.
     NoSuchResource,
-    /// The event's time is preassigned, or for a task the resource of its place.
+    /// The event's time is preassigned, or, for a task, the resource of its place.
     Fixed,
     /// The meet has a start, or the task a resource.
     AlreadyAssigned,
@@ -33,7 +33,7 @@ pub enum Refusal {
     NotAdjacent,
     /// At some place the meets' resources differ.
     TasksDiffer,
-    /// Both are the same, or what would be given is there already.
+    /// Both meets or tasks are the same one, or the meet or task has already what it would be given.
     Same,
     /// The instance has no monitor of this number.
     NoSuchMonitor,

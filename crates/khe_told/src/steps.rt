@@ -6,9 +6,9 @@ use std::marker::Model;
 pub use std::sync::ledger::Blank;
 use std::sync::ledger::{Book, Ledger, Share};
 
-/// How many steps were taken; one step is one deviation that is set in a graph. Contracts see the number. What is
-/// measured for a trial sets none, and counts in none.
-/// It takes no bytes and no time when the program runs, and no call changes it but `tick`.
+/// How many steps were taken; one step is one deviation that is set in a graph. Contracts see the number. A
+/// measurement for a trial sets no deviation, so it is no step. The count exists in proofs alone: it takes no
+/// memory and no time when the program runs. Only `tick` changes it.
 #[derive(Drop)]
 pub struct Steps<L: Ledger> {
     book: Book<L>,

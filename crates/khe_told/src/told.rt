@@ -149,8 +149,8 @@ impl Told {
         self.given(task.meet)[task.place as usize]
     }
 
-    /// What becomes of a meet slot where it is taken over from another state, which gives no other places than
-    /// these something else. It takes the time of comparing what these are given.
+    /// The turn of a meet slot when it is copied from another state, which may differ in what it gives at these
+    /// places alone. It takes the time of comparing what these places are given.
     pub fn turn_to<'a>(&'a self, next: &'a Told, meet: MeetId, places: Places) -> Turn<'a>
         requires there { meet.0 < length self.now }
         requires same { emptied (slot_at next.now meet.0) ≡ emptied (slot_at self.now meet.0) }
@@ -179,8 +179,8 @@ impl Told {
         }
     }
 
-    /// Takes over a meet slot from another state, which gives no other places than these something else. It takes
-    /// time in proportion to these.
+    /// Copies a meet slot from another state, which may differ in what it gives at these places alone. It takes
+    /// time in proportion to these places.
     pub fn follow(&mut self, next: &Told, meet: MeetId, places: Places)
         requires there { meet.0 < length self.old }
         requires same { emptied (slot_at next.now meet.0) ≡ emptied (slot_at self.old meet.0) }

@@ -8,9 +8,9 @@ use khe_base::{MonitorId, NoMemory};
 use std::alloc::Global;
 use std::marker::Model;
 
-/// Is told of monitors whose deviations may have changed.
+/// What is notified of monitors whose deviations may have changed.
 pub trait Waits {
-    /// Whether it keeps what it is told.
+    /// Whether it queues the monitors of which it is notified.
     ghost hears: { Bool };
 
     /// How many monitors there are.
@@ -19,19 +19,21 @@ pub trait Waits {
     /// Whether the monitor with a number waits to be measured anew.
     ghost waits: { Self → ℕ → Bool };
 
-    /// Whether it keeps what it is told. It takes constant time.
+    /// Whether it queues the monitors of which it is notified. It takes constant time.
     fn hears() -> bool
         ensures { result ≡ hears };
 
-    /// Lets a monitor wait, in constant time and without memory. One that waits already waits on.
+    /// Queues a monitor, in constant time and without memory. A monitor that is queued already stays queued
+    /// once.
     fn add(&mut self, monitor: MonitorId)
         requires known { monitor.0 < monitors self.old }
         ensures monitors { monitors self.new ≡ monitors self.old }
         ensures waits { (k : ℕ) → waits self.new k ≡ (waits self.old k || (hears && nat_eq k monitor.0)) };
 }
 
-/// Monitors that wait to be measured anew, each once. Contracts see for each monitor whether it
-/// waits, and how many do.
+/// The queue of monitors that are to be measured anew, each once. Contracts see for each monitor whether it is
+/// queued, and how many are, but not their order: each deviation is measured by itself, so any order gives the
+/// same.
 #[derive(Drop)]
 pub struct Waiting {
     list: Vec<MonitorId>,
@@ -51,8 +53,8 @@ impl Model for Waiting {
 }
 
 impl Waiting {
-    /// No monitor is queued, of the given number. It takes time and memory in proportion to them; no other call takes
-    /// memory.
+    /// The empty queue for the given number of monitors. It takes time and memory in proportion to that number;
+    /// no other call takes memory.
     pub fn open(alloc: Global, monitors: u32) -> Result<Waiting, NoMemory>
         ensures flags { IfOk result (λ w. w.flags ≡ replicate monitors false) }
         ensures amount { IfOk result (λ w. w.amount ≡ 0) }
@@ -62,7 +64,7 @@ impl Waiting {
         Ok(Waiting { list, flags })
     }
 
-    /// What is true of all such lists: those wait that have a flag.
+    /// What is true of every queue: exactly the flagged monitors are queued.
     pub fn facts(&self)
         ensures { self.now.amount ≡ count_by (λ (b : Bool). b) self.now.flags }
     {
@@ -76,8 +78,8 @@ impl Waiting {
         self.list.as_slice()
     }
 
-    /// Takes the monitor that came last, which then waits no longer, or answers `None` where none
-    /// waits. It takes constant time.
+    /// Removes the monitor that was queued last and returns it, or `None` where the queue is empty. It takes
+    /// constant time.
     pub fn pop(&mut self) -> Option<MonitorId>
         ensures { MatchOption result
             ((self.new ≡ self.old) × (self.old.amount ≡ 0) × ((k : ℕ) → waits_in self.old k ≡ false))
@@ -124,7 +126,8 @@ impl Waits for Waiting {
     }
 }
 
-/// Keeps nothing of what it is told: for changes that take others back.
+/// A queue that ignores what it is told: for the undoing of a trial, after which every monitor has the
+/// deviation that it had before.
 #[derive(Drop)]
 pub struct Unheard {
     /// How many monitors there are.

@@ -14,14 +14,14 @@ use crate::steps::Steps;
 use khe_instance::Instance;
 use std::sync::ledger::Ledger;
 
-/// Is notified of each change of a timetable.
+/// What is notified of each change of a timetable.
 ///
 /// A change and then its inverse leave the told state as it was, since `note` gives `after`.
 pub trait Watcher {
-    /// The meets and tasks that it was told.
+    /// The meets and tasks of which it was notified.
     ghost told: { Self → List Slot };
 
-    /// That it was opened on the instance with these parts.
+    /// It was opened on the instance with these parts.
     ghost IsOf: { Self → Parts → Type 0 };
 
     /// The changes that it was notified of, in order, where it keeps them.
@@ -30,10 +30,10 @@ pub trait Watcher {
     /// Whether it never takes a step.
     ghost is_silent: { Bool };
 
-    /// How many steps it owes at most: those that it has yet to take for changes that it was noted of.
+    /// How many steps it owes at most: the steps that it has yet to take for changes of which it was notified.
     ghost owed: { Self → Parts → ℕ } = { λ _ _. 0 };
 
-    /// That all else is the same in both.
+    /// All else is the same in both.
     ghost HasSameRest: { Self → Self → Type 0 };
 
     /// Follows a change that fits what it was told. It takes no memory, and takes or owes at most one step

@@ -49,9 +49,8 @@ pub struct Counts {
 /// soft S deficit D` with a line feed: its ten edits an event are drawn, in tens of which each has a mark
 /// and every second is undone, and carried out on an engine of a timetable of the job's instance.
 ///
-/// The draws go on from those of the archive. The only error is want of memory. It takes what opening an
-/// engine takes, for each edit what watches its changes, and at the end what it takes to find what is
-/// short.
+/// The draws go on from those of the archive. It fails only where memory is refused. It takes what opening an
+/// engine takes, for each edit what watches its changes, and at the end what it takes to find what is short.
 pub fn run_line<F: Family + Drop>(
     alloc: Global,
     inst: &Instance,

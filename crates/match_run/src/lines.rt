@@ -201,7 +201,8 @@ fn push_last(
 /// with `kept` in place of `taken` where the choice was not made: how many tasks there are, what the choice costs task
 /// by task, and what the timetable costs. They are comments of the archive that they stand after.
 ///
-/// Its only error is want of memory. It takes time and memory in proportion to the tasks and the resources.
+/// It fails only where memory is refused. It takes time and memory in proportion to the tasks and the
+/// resources.
 pub fn match_lines(alloc: Global, matched: &Matched, totals: Totals) -> Result<Text, NoMemory>
     requires { (costs : Costs) × FitsLists matched.now costs × IsCertified costs matched.now.cheapest }
     ensures { IfOk result (λ t. t ≡ spec.match_lines matched.now totals) }

@@ -197,8 +197,8 @@ impl Graph {
         }
     }
 
-    /// Marks the costs that stand, to be compared with from here on. It takes time in proportion to
-    /// the monitors whose costs changed since they were marked, and to a 4096th of all.
+    /// Marks the present costs, with which later ones are compared. It takes time in proportion to the monitors
+    /// whose costs changed since they were marked, and to a 4096th of all.
     pub fn compare_from_here(&mut self)
         ensures lines { self.new.lines ≡ self.old.lines }
         ensures groups { self.new.groups ≡ self.old.groups }
@@ -215,7 +215,7 @@ impl Graph {
         self.numbers = 0;
     }
 
-    /// The only monitor that costs more than marked; `None` where none does, or several do.
+    /// The only monitor that costs more than when costs were marked; `None` where none does, or several do.
     pub fn only_dearer(&self) -> Option<MonitorId>
         ensures { (p : Parts) → IsOf self.now p → result ≡ only_dearer p self.now }
     {
@@ -250,8 +250,8 @@ impl Graph {
         self.costs.of(group)
     }
 
-    /// Makes room for this many children more in the group of a number, whether it is there or not.
-    /// Where memory is refused, all stays as it was. Room for one at a time is made in constant time on
+    /// Makes room for this many more children in the group with this number, whether or not there is such a
+    /// group. Where memory is refused, all stays as it was. Room for one at a time is made in constant time on
     /// average.
     pub fn room(&mut self, group: GroupId, n: u32) -> Result<(), NoMemory>
         ensures lines { self.new.lines ≡ self.old.lines }

@@ -1,4 +1,4 @@
--- What became of all jobs, by those that ran.
+-- What became of all jobs, given which of them ran.
 use Rattle.std.specs.Prelude.{ℕ, ◌≡◌, ◌<◌, List, length, slice_get, Some}
 use Rattle.solve_board.specs.Counts.{IsAmong, times}
 use Rattle.parallel_repair.specs.Solved.{HasRun}

@@ -38,10 +38,10 @@ pub struct Effort {
 /// job without a cost lets higher ones be left out. The answer is the same for every number of workers
 /// and all their turns; which jobs are left out isn't.
 ///
-/// The depth is 1 to `CHAIN_MOVES`, and the budget at least 1. The only error is want of memory. It takes the time
-/// of the jobs that are run, divided among the workers that run at the same time, and for each worker
-/// that of opening one engine, which is led back to the timetable by an undo after each job. It takes
-/// memory for an engine and two timetables for each worker, and a row for each job.
+/// The depth is 1 to `CHAIN_MOVES`, and the budget at least 1. It fails only where memory is refused. It takes
+/// the time of the jobs that are run, divided among the workers that run at the same time, and for each worker
+/// that of opening one engine, which is led back to the timetable by an undo after each job. It takes memory
+/// for an engine and two timetables for each worker, and a row for each job.
 pub fn solve<F: Family + Drop + Send + Sync, R: Threads + Sync, G: Gate>(
     rt: &R,
     alloc: Global,

@@ -11,28 +11,28 @@ pub trait Work: Sync {
     ghost use Rattle.khe_instance.specs.declared.states.Plain.{Plain};
     ghost use Rattle.parallel_repair.specs.declared.answers.Answer.{Answer};
 
-    /// What a worker works at, from job to job.
+    /// What a worker keeps from job to job.
     type Desk: Drop + Send;
 
     /// What the job with a number comes to.
     ghost answer: { Self → ℕ → Answer };
 
-    /// That the work can be done.
+    /// The work can be done.
     ghost IsSound: { Self → Type 0 };
 
     /// What is known of each timetable that a job comes to.
     ghost IsFit: { Self → Plain → Type 0 };
 
-    /// That a desk is one of this work, ready for a job.
+    /// The desk belongs to this work and is ready for a job.
     ghost IsReady: { Self → Self.Desk → Type 0 };
 
-    /// A desk for one worker. The only error is want of memory.
+    /// A desk for one worker. It fails only where memory is refused.
     fn open(&self, alloc: Global) -> Result<Self::Desk, NoMemory>
         requires { IsSound self.now }
         ensures { IfOk result (IsReady self.now) };
 
-    /// Does the job with this number, and leaves the desk ready for another one. The only error is
-    /// want of memory, after which the desk is of no use.
+    /// Does the job with this number, and leaves the desk ready for another one. It fails only where memory is
+    /// refused, after which the desk is of no use.
     fn run(&self, alloc: Global, desk: &mut Self::Desk, job: u64) -> Result<Answer, NoMemory>
         requires { IsReady self.now desk.old }
         ensures answer { IfOk result (λ a. a ≡ answer self.now job) }

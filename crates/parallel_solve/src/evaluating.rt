@@ -20,8 +20,8 @@ use std::thread::Threads;
 use xhstt_resolve::Resolved;
 use xhstt_shape::{Archive, RawSolution};
 
-/// All solutions of an archive, group by group in order. The only error is want of memory. It takes
-/// time and memory in proportion to them and to the groups.
+/// All solutions of an archive, group by group in order. It fails only where memory is refused. It takes time
+/// and memory in proportion to them and to the groups.
 pub fn all_solutions(alloc: Global, archive: &Archive) -> Result<Vec<&RawSolution>, NoMemory>
     ensures { IfOk result (λ v. map (λ x. x.now) v.items ≡ solutions_of archive.now) }
 {
@@ -39,9 +39,9 @@ pub fn all_solutions(alloc: Global, archive: &Archive) -> Result<Vec<&RawSolutio
 /// its number. What comes does not depend on the number of workers, nor on their turns: a valid
 /// solution's values are the definitions', and an invalid one has its first cause.
 ///
-/// The only error is want of memory. It takes the time of evaluating all solutions, divided among
-/// the workers that run at the same time, and that of `rooms_of`; and memory in proportion to the
-/// monitors of all solutions, that of `rooms_of`, and for each worker that of evaluating one.
+/// It fails only where memory is refused. It takes the time of evaluating all solutions, divided among the
+/// workers that run at the same time, and that of `rooms_of`; and memory in proportion to the monitors of all
+/// solutions, that of `rooms_of`, and for each worker that of evaluating one.
 pub fn evaluate_all<'a, R: Threads + Sync, G: Gate>(
     rt: &R,
     alloc: Global,

@@ -41,8 +41,8 @@ pub trait SolutionJob: Sync {
     /// What it makes of the solutions of a batch with their numbers.
     ghost made: { Self → Resolved → List (ℕ × RawSolution) → Self.Made };
 
-    /// Does it for `count` of all solutions from a first one on. It passes the gate before each of them, with its
-    /// number. The only error is want of memory.
+    /// Does it for `count` of all solutions from a first one on. It passes the gate before each of them, with
+    /// its number. It fails only where memory is refused.
     fn make<G: Gate>(
         &self,
         alloc: Global,

@@ -95,9 +95,9 @@ fn place_of<'a>(
     (&resolved.instances.as_slice()[instance], &rooms[instance])
 }
 
-/// What comes of the solution with this number, with what evaluations need of each instance alone.
-/// The only error is want of memory. It takes the time and memory of completing the solution and
-/// evaluating its state.
+/// What comes of the solution with this number, with what evaluations need of each instance alone. It fails
+/// only where memory is refused. It takes the time and memory of completing the solution and evaluating its
+/// state.
 pub fn numbered(
     alloc: Global,
     resolved: &Resolved,

@@ -15,8 +15,8 @@ use std::alloc::Global;
 use std::thread::Threads;
 use xhstt_resolve::Resolved;
 
-/// How many bytes what is made of a window takes for each of its workers when no more is drawn. The batches that were
-/// drawn by then come to it.
+/// Once the results of a window take this many bytes for each of its workers, no further batch is drawn.
+/// Batches that were drawn by then are still done.
 const MOST_BYTES: usize = 1 << 21;
 
 /// How many monitors the solutions of a batch may have, where it has more than one.
@@ -33,9 +33,10 @@ const BATCHES: usize = 16;
 /// made of those before them is written, so that little is left to write when nothing is left to make.
 const LAST: usize = 8;
 
-/// Makes windows over the solutions of an archive: what a job makes of solutions that follow one another, by workers
-/// who draw batches of them until that comes to 2 MiB for each worker. A single worker's window is one batch. So who
-/// reads window after window needs the memory of the windows that it holds, and not of all results.
+/// Makes windows over the solutions of an archive: what a job makes of solutions that follow one another, by
+/// workers who draw batches of them until the results come to 2 MiB for each worker. A single worker's window
+/// is one batch. So a caller that reads window after window needs memory for the windows that it holds, and not
+/// for all results.
 #[derive(Clone, Copy)]
 pub struct WindowMaker {
     /// How many solutions a batch has at most.
@@ -111,8 +112,8 @@ impl WindowMaker {
     /// Makes the window that begins with this solution. It reaches no further only where no solution is left from
     /// there on. The workers do the job, and pass the gate before each solution, with its number.
     ///
-    /// The only error is want of memory. It takes the time and memory of the job for the window's solutions,
-    /// divided among the workers that run at the same time.
+    /// It fails only where memory is refused. It takes the time and memory of the job for the window's
+    /// solutions, divided among the workers that run at the same time.
     pub fn make<J: SolutionJob, R: Threads + Sync, G: Gate>(
         &self,
         rt: &R,
@@ -131,8 +132,8 @@ impl WindowMaker {
         window
     }
 
-    /// The same, and what comes of something else: the calling thread does that first, while the other workers
-    /// make the window, and then it is one of them.
+    /// Makes the same window beside other work: the calling thread does the other work first, while the other
+    /// workers make the window, and then joins them. It returns the results of both.
     pub fn make_beside<J: SolutionJob, R: Threads + Sync, G: Gate, T, B: FnMut() -> T>(
         &self,
         rt: &R,

@@ -31,11 +31,11 @@ pub struct Values {
 /// sixteen kinds, the costs those of the cost functions of their constraints, and the totals their
 /// sums; all of it is added up anew.
 ///
-/// The only error is want of memory. It takes time about in proportion to the meets, the tasks, the
-/// times that they cover, the watches of the monitors, the resources, and the times for each resource
-/// that has a task; and memory in proportion to the meets, the tasks, the monitors, the resources, and
-/// the times for each resource that has a task. A caller that evaluates many timetables of an instance makes what
-/// depends on the instance alone once, and calls `evaluate_in`.
+/// The only error is that memory is refused. It takes time about in proportion to the meets, the tasks, the
+/// times that they cover, the watches of the monitors, the resources, and the times for each resource that has
+/// a task; and memory in proportion to the meets, the tasks, the monitors, the resources, and the times for
+/// each resource that has a task. A caller that evaluates many timetables of an instance makes what depends on
+/// the instance alone once, and calls `evaluate_in`.
 ///
 /// The sources are the pages of the constraints and of the cost functions of the XHSTT format.
 pub fn evaluate(alloc: Global, inst: &Instance, plain: &Plain) -> Result<Values, NoMemory>

@@ -12,7 +12,7 @@ use std::alloc::Global;
 /// how many were tried, where the budget was spent the number of moves to which the timetable is settled,
 /// and the totals of the timetable. It is a comment of the archive that it stands after.
 ///
-/// Its only error is want of memory. It takes constant time and memory.
+/// It fails only where memory is refused. It takes constant time and memory.
 pub fn repair_line(alloc: Global, outcome: Outcome, totals: Totals) -> Result<Text, NoMemory>
     ensures { IfOk result (λ t. t ≡ spec.repair_line outcome totals) }
 {
@@ -26,7 +26,7 @@ pub fn repair_line(alloc: Global, outcome: Outcome, totals: Totals) -> Result<Te
 /// The line on many repairs, `<!-- khe solve job J hard H soft S -->`: the number of the job with the
 /// least result, and the totals of its timetable. It is a comment of the archive that it stands after.
 ///
-/// Its only error is want of memory. It takes constant time and memory.
+/// It fails only where memory is refused. It takes constant time and memory.
 pub fn solve_line(alloc: Global, job: u64, totals: Totals) -> Result<Text, NoMemory>
     ensures { IfOk result (λ t. t ≡ spec.solve_line job totals) }
 {

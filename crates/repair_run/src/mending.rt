@@ -41,7 +41,7 @@ impl Drop for Mended {
 /// Repairs a timetable by chains of at most `depth` moves, 1 to `CHAIN_MOVES`, of which `budget` may be tried, at
 /// least 1. Each list of defects and of moves is begun at its first.
 ///
-/// Its only error is want of memory. It opens an engine on the timetable, which it takes no longer than
+/// It fails only where memory is refused. It opens an engine on the timetable, which it takes no longer than
 /// this call, and takes the time of the repair, as `repair` says.
 pub fn mend<F: Family + Drop>(
     alloc: Global,

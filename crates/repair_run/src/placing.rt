@@ -24,7 +24,7 @@ pub struct Spot {
 /// Puts the entries of a timetable in place of those of the solution with this number over all groups of
 /// an archive. Where the archive has no such solution it stays as it was.
 ///
-/// Its only error is want of memory, after which the archive is as it was. It takes time and memory in
+/// It fails only where memory is refused, after which the archive is as it was. It takes time and memory in
 /// proportion to the timetable and its Ids, and besides time in proportion to the groups.
 pub fn respell(
     alloc: Global,

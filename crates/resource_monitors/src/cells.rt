@@ -28,10 +28,10 @@ use std::marker::PhantomData;
 
 /// A keeper of kinds that are measured by how many tasks of a resource run at each time.
 ///
-/// It keeps a timetable, the masks of the constraints' sets of times and for each resource the
-/// monitors at it. A slot that changes turns the counts of the cells that are emptied or filled, and
-/// then the monitors at their resources wait that list one of the times. Monitors that are measured by busy
-/// times alone are passed over where no resource may have become busy or free.
+/// It keeps a timetable, the masks of the constraints' sets of times and for each resource the monitors at it.
+/// A slot that changes turns the counts of the cells that are emptied or filled, and then queues the monitors
+/// at their resources that list one of the times. Monitors that are measured by busy times alone are passed
+/// over where no resource may have become busy or free.
 pub struct Cells<K> {
     table: CellTable,
     sets: TimeSets,

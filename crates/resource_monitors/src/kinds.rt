@@ -10,7 +10,7 @@ use khe_instance::Kind;
 
 /// Some of the five kinds that are measured by how many tasks of a resource run at each time.
 pub trait CellKinds {
-    /// Which they are.
+    /// The kinds that are served.
     ghost serves_kind: { Kind → Bool };
 
     /// Whether a kind is one of them. It takes constant time.
@@ -61,7 +61,7 @@ impl CellKinds for FiveKinds {
 /// The family of Avoid Clashes: for each time, how many tasks of the resource run then beyond one.
 pub type AvoidClashes = Keeping<Cells<Clashes>>;
 
-/// Its kind.
+/// Its kind alone.
 pub struct Clashes;
 
 impl CellKinds for Clashes {
@@ -81,7 +81,7 @@ impl CellKinds for Clashes {
 /// The family of Avoid Unavailable Times: how many of the listed times the resource is busy at.
 pub type AvoidUnavailableTimes = Keeping<Cells<UnavailableTimes>>;
 
-/// Its kind.
+/// Its kind alone.
 pub struct UnavailableTimes;
 
 impl CellKinds for UnavailableTimes {
@@ -101,7 +101,7 @@ impl CellKinds for UnavailableTimes {
 /// The family of Limit Idle Times: how far the idle times of the listed groups together lie outside the bounds.
 pub type LimitIdleTimes = Keeping<Cells<IdleTimes>>;
 
-/// Its kind.
+/// Its kind alone.
 pub struct IdleTimes;
 
 impl CellKinds for IdleTimes {
@@ -121,7 +121,7 @@ impl CellKinds for IdleTimes {
 /// The family of Cluster Busy Times: how far the number of listed groups with a busy time lies outside the bounds.
 pub type ClusterBusyTimes = Keeping<Cells<BusyGroups>>;
 
-/// Its kind.
+/// Its kind alone.
 pub struct BusyGroups;
 
 impl CellKinds for BusyGroups {
@@ -142,7 +142,7 @@ impl CellKinds for BusyGroups {
 /// lies outside the bounds.
 pub type LimitBusyTimes = Keeping<Cells<BusyTimes>>;
 
-/// Its kind.
+/// Its kind alone.
 pub struct BusyTimes;
 
 impl CellKinds for BusyTimes {

@@ -16,9 +16,9 @@ pub type LimitWorkload = Keeping<Workloads>;
 
 /// The keeper of Limit Workload.
 ///
-/// It keeps the workload of each resource in whole parts of one over the instance's unit, so that
-/// a deviation is rounded once. Only a turn that gives a place something else, or another duration, alters a
-/// workload, and then the monitors on it wait; every other turn takes constant time.
+/// It keeps the workload of each resource in whole parts of one over the instance's unit, so that a deviation
+/// is rounded once. Only a turn that gives a place something else, or another duration, alters a workload, and
+/// then its monitors are queued; every other turn takes constant time.
 #[derive(Drop)]
 pub struct Workloads {
     loads: Vec<u128>,

@@ -7,9 +7,9 @@ use khe_base::NoMemory;
 use khe_instance::Instance;
 use std::alloc::Global;
 
-/// The keepers of all six kinds at resources, of which no two serve one kind. Five of them share one
-/// timetable. They come last: who measures those that wait begins with the last that came, and clashes are what
-/// an edit of a resource's tasks most often costs.
+/// The keepers of all six kinds at resources, of which no two serve one kind. Five of them share one timetable.
+/// They come last, because measuring begins with the monitor that was queued last, and clashes are what an edit
+/// of a resource's tasks most often costs.
 pub type ResourceKeepers = TwoKeepers<Workloads, AtCells>;
 
 /// Opens them: that they are well joined is what this call requires. No program calls it.

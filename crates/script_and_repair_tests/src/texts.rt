@@ -1,4 +1,4 @@
-//! What repairs are written as.
+//! What repairs are written as. The archives that are repaired stand in `archives`, the commands in `commands`.
 
 /// The first solution of the archive of two events, where one chain may be tried.
 pub(crate) const SPENT: &str = r#"<Solution Reference="J">
@@ -14,7 +14,8 @@ pub(crate) const SPENT: &str = r#"<Solution Reference="J">
 </Solution>
 "#;
 
-/// The same, where two chains may be tried and lists are begun at their fifth.
+/// The same, where two chains may be tried, and each list of defects and of moves is begun at its fifth item
+/// (the diversifier is 4).
 pub(crate) const FIFTH: &str = r#"<Solution Reference="J">
 <Events>
 <Event Reference="E">

@@ -16,8 +16,8 @@ use std::sync::ledger::Ledger;
 
 /// Carries out the command of one line, and adds its answer, as a script does.
 ///
-/// Its only error is want of memory, after which the instance is the same and nothing else is promised. It takes
-/// the time of the edit or of the answer.
+/// It fails only where memory is refused, after which the instance is the same and nothing else is promised. It
+/// takes the time of the edit or of the answer.
 pub fn answer_command<F: Shortages>(
     alloc: Global,
     engine: &mut Engine<'_, F>,

@@ -37,7 +37,7 @@ impl<K: Sink> Onward for K {
     }
 }
 
-/// Keeps an answer as it grows: the whole of it waits.
+/// Keeps an answer as it grows, whole in memory.
 #[derive(Drop)]
 pub struct Kept;
 

@@ -25,9 +25,9 @@ use std::alloc::Global;
 /// The family of Avoid Split Assignments: a monitor's deviation is how many resources have a task
 /// in the role among its events, less one.
 ///
-/// A monitor keeps a count for each resource with the type of such a task, 8 bytes each, and the place in the role
-/// of each of its events that has one. A turn looks for that place by halves, and at no other; where it is given
-/// something else, the resources before and after are looked for by halves too.
+/// A monitor keeps a count for each resource with the type of such a task, 8 bytes each, and the place in the
+/// role of each of its events that has one. A turn finds that place by binary search and looks at no other;
+/// where its resource changes, the old and the new resource are found by binary search too.
 pub type AvoidSplitAssignments = Keeping<Counted<Holders>>;
 
 /// The gauge of Avoid Split Assignments.

@@ -1,8 +1,8 @@
-//! The families of the kinds at groups and at pairs of events: Spread Events, by how many meets start in
-//! each listed time group; Avoid Split Assignments, by how many tasks in a role each resource has; Link
-//! Events, by how many of a group's events run at each time, where an event counts once at a time,
-//! however many of its meets run then; and Order Events, by the last end of one event's meets and the
-//! first start of another's, kept with their least, so that a meet that goes is no walk over all others.
+//! The families of the kinds at groups and at pairs of events: Spread Events, by how many meets start in each
+//! listed time group; Avoid Split Assignments, by how many tasks in a role each resource has; Link Events, by
+//! how many of a group's events run at each time, where an event counts once at a time, however many of its
+//! meets run then; and Order Events, by the last end of one event's meets and the first start of another's,
+//! kept in trees with their least, so that no walk over all others is needed when a meet goes.
 #![tactic(auto)]
 
 mod avoid_split_assignments;

@@ -12,24 +12,24 @@ use resource_monitors::ResourceKeepers;
 use set_monitors::{Holders, Links, OrderEdges, Starts};
 use std::alloc::Global;
 
-/// The kinds that only a change of a duration may change.
+/// The kinds whose deviations only a change of a duration may change.
 type OfDurations = Counted<OneOf<Split, Sum<OfDuration>>>;
 
-/// The kinds that only a change of a task or of a duration may change.
+/// The kinds whose deviations only a change of a task or of a duration may change.
 type OfTasks = Counted<OneOf<Holders, OneOf<Sum<Unfilled>, Sum<Misfilled>>>>;
 
-/// The kinds that only a change of a meet may change: of its start, or of its duration.
+/// The kinds whose deviations only a change of a meet may change: of its start, or of its duration.
 type OfMeets = Counted<OneOf<OneOf<Starts, Links>, OneOf<Sum<Unplaced>, Sum<Misplaced>>>>;
 
-/// The kinds at events, at places and groups of them, and at pairs. Kinds that hear the same changes share one
-/// list of an event's monitors, which is looked up once for each change.
+/// The kinds at events, at places and groups of them, and at pairs. Kinds that observe the same changes share
+/// one list of an event's monitors, which is looked up once for each change.
 type OfEvents = TwoKeepers<OfMeets, TwoKeepers<OfTasks, TwoKeepers<OfDurations, OrderEdges>>>;
 
 /// The keepers of all kinds.
 type AllKeepers = TwoKeepers<OfEvents, ResourceKeepers>;
 
-/// The keepers of all kinds as one keeper. It is a struct, and not a name for what it is made of: so who names the
-/// families names one type, and its check does not go through the sixteen.
+/// The keepers of all kinds as one keeper. It is a struct rather than a type alias, so that code which names
+/// the families names one type, and its check does not go through the sixteen.
 pub struct SixteenKeepers {
     all: AllKeepers,
 }

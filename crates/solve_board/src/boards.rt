@@ -59,8 +59,8 @@ impl Board {
     ghost use Rattle.solve_board.specs.Views.{claimed, offered, saw_none, saw, first_view, split_view, new_view, joined_view};
     ghost use Rattle.solve_board.specs.Seats.{view, IsSeatOf, EndsRun};
 
-    /// A board of at most 10,000 jobs, none of them claimed, with its first seat. The only error is
-    /// want of memory. It takes constant time and memory.
+    /// A board of at most 10,000 jobs, none of them claimed, with its first seat. It fails only where memory is
+    /// refused. It takes constant time and memory.
     pub fn new(alloc: Global, jobs: u64) -> Result<(Board, Seat), NoMemory>
         requires { jobs ≤ JOBS }
         ensures seat { IfOk result (λ made. IsSeatOf made.0 made.1) }

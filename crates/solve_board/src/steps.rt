@@ -13,9 +13,9 @@ use std::alloc::Global;
 /// worker's offers, and a look changes nothing. From a state in order, in which each number below the next
 /// was claimed once and each worker has claimed what it offers, it leads to a state in order.
 ///
-/// The step's worker has to be there, a claim needs a next number below 2^64 - 1, and an offer a
-/// job that the worker has claimed. The only error is want of memory. It takes time and memory in
-/// proportion to the numbers in the state.
+/// The step's worker has to be there, a claim needs a next number below 2^64 - 1, and an offer a job that the
+/// worker has claimed. It fails only where memory is refused. It takes time and memory in proportion to the
+/// numbers in the state.
 #[tactic(auto, using(crate::proofs::OrderLemmas::order_after))]
 pub fn board_step(
     alloc: Global,

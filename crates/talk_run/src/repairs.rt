@@ -18,8 +18,8 @@ use std::sync::ledger::Ledger;
 
 /// Repairs the timetable of an engine, and adds the line on it; where a mark is open, it adds the line that refuses.
 ///
-/// Its only error is want of memory, after which the instance is the same and nothing else is promised. It takes what
-/// `repair` takes.
+/// It fails only where memory is refused, after which the instance is the same and nothing else is promised. It
+/// takes what `repair` takes.
 #[tactic(auto, using(crate::proofs::PlayLaws::no_marks, crate::proofs::PlayLaws::depth_some, crate::proofs::PlayLaws::depth_small, crate::proofs::PlayLaws::budget_some))]
 pub(crate) fn answer_repair<F: Family>(
     alloc: Global,

@@ -1,4 +1,4 @@
-//! An engine and its archive as who answers a talk.
+//! An engine and its archive, answering the lines of a talk.
 
 ghost use Rattle.std.specs.Prelude.{◌≡◌, ◌≤◌, ◌++◌, IsErrOf, OnErr, OnOk, codes, refl};
 ghost use Rattle.khe_io.specs.Faults.{Rose, Took, TookFront};

@@ -11,7 +11,7 @@ use khe_io::{Cut, Sink, flush};
 use std::alloc::Global;
 use std::io::BufRead;
 
-/// Who answers the lines of a talk.
+/// What answers the lines of a talk.
 pub trait Talker {
     /// The bytes of its answers to lines that are numbered on from a number, each with the line that ends it.
     ghost said: { Self → ℕ → List (List ℕ) → List ℕ };

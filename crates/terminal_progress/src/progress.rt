@@ -21,7 +21,7 @@ pub struct Terminals {
     pub errors: bool,
 }
 
-/// What the workers pass the gate with.
+/// What the numbers stand for with which workers pass the gate.
 #[derive(Clone, Copy)]
 pub enum Work<'a> {
     /// The numbers of jobs, and how many there are as the words write it.

@@ -225,29 +225,31 @@ takes at p r s k e = let same : record { phase = p; read = r } ≡ s = cc in ap_
 pub blocked : {G : Type 0} (x : Step) (f : TextFault) (s : State) → x ≡ refused f → x ≡ Ok s → G
 blocked x f s e d = cc
 
-opened_38 : (fs : List Frame) (place : ℕ) (r : Read) (at : ℕ) → step_opened fs place r at 38 ≡ refused (bad_markup at)
-opened_38 [] place r at = refl
-opened_38 (f ∷ fs) place r at = refl
+ampersand_after_less : (fs : List Frame) (place : ℕ) (r : Read) (at : ℕ)
+    → step_opened fs place r at 38 ≡ refused (bad_markup at)
+ampersand_after_less [] place r at = refl
+ampersand_after_less (f ∷ fs) place r at = refl
 
-shut_38 : (fs : List Frame) (place : ℕ) (name : List ℕ) (r : Read) (at : ℕ)
+ampersand_in_end_tag : (fs : List Frame) (place : ℕ) (name : List ℕ) (r : Read) (at : ℕ)
     → step_shut fs place name r at 38 ≡ refused (bad_markup at)
-shut_38 [] place name r at = refl
-shut_38 (f ∷ fs) place name r at = refl
+ampersand_in_end_tag [] place name r at = refl
+ampersand_in_end_tag (f ∷ fs) place name r at = refl
 
-content_38 : (fs : List Frame) (r : Read) (at : ℕ) (s : State) → step_content fs r at 38 ≡ Ok s → Taken at s.phase
-content_38 [] r at s e = no s e
-content_38 (f ∷ fs) r at s e =
+ampersand_in_content : (fs : List Frame) (r : Read) (at : ℕ) (s : State)
+    → step_content fs r at 38 ≡ Ok s → Taken at s.phase
+ampersand_in_content [] r at s e = no s e
+ampersand_in_content (f ∷ fs) r at s e =
     takes at (reference at in_text) (record r { frames = noted f at 38 ∷ fs }) s refl e
 
 pub either_refused : {G : Type 0} (c : Bool) (f g : TextFault) (s : State) → cond c (refused f) (refused g) ≡ Ok s → G
 either_refused true f g s e = no s e
 either_refused false f g s e = no s e
 
-quote_38 : (quote : ℕ) → is_quote quote ≡ true → eqb 38 quote ≡ false
-quote_38 quote h = grind (arith, nat_tests)
+ampersand_is_no_quote : (quote : ℕ) → is_quote quote ≡ true → eqb 38 quote ≡ false
+ampersand_is_no_quote quote h = grind (arith, nat_tests)
 
-key_38 : (k : ℕ) → is_key k ≡ true → eqb 38 k ≡ false
-key_38 k h = grind (arith, nat_tests)
+ampersand_is_no_key : (k : ℕ) → is_key k ≡ true → eqb 38 k ≡ false
+ampersand_is_no_key k h = grind (arith, nat_tests)
 
 pub past_dash : (c : Bool) (x y : Step) (s : State) → cond (c && false) x y ≡ Ok s → y ≡ Ok s
 past_dash true x y s e = e
@@ -255,7 +257,7 @@ past_dash false x y s e = e
 
 taken : (p : Phase) (r : Read) (q : List ℕ) (at : ℕ) (s : State) → Past p r.frames q → Usual p → step p r at 38 ≡ Ok s
     → Taken at s.phase
-taken content r q at s k u e = content_38 r.frames r at s e
+taken content r q at s k u e = ampersand_in_content r.frames r at s e
 taken (in_comment place count) r q at s k u e =
     takes at (in_comment place 0) r s tt (past_dash (leb 2 count) (state (phase_of place) r)
     (state (in_comment place 0) r) s e)
@@ -265,23 +267,23 @@ taken (in_declaration seen) r q at s k u e =
 taken (in_value t place name quote from) r q at s k u e =
     takes at (reference at (in_quotes t place name quote from)) r s refl
     (sym (let d : step (in_value t place name quote from) r at 38
-    ≡ state (reference at (in_quotes t place name quote from)) r = rw (quote_38 quote k.1) refl in d) ∙ e)
+    ≡ state (reference at (in_quotes t place name quote from)) r = rw (ampersand_is_no_quote quote k.1) refl in d) ∙ e)
 taken (opened place) r q at s k u e = blocked (step (opened place) r at 38) (bad_markup at) s
-    (opened_38 r.frames place r at) e
+    (ampersand_after_less r.frames place r at) e
 taken (shut place name) r q at s k u e =
-    blocked (step (shut place name) r at 38) (bad_markup at) s (shut_38 r.frames place name r at) e
+    blocked (step (shut place name) r at 38) (bad_markup at) s (ampersand_in_end_tag r.frames place name r at) e
 taken (shut_gap place name) r q at s k u e =
-    blocked (step (shut_gap place name) r at 38) (bad_markup at) s (shut_38 r.frames place name r at) e
+    blocked (step (shut_gap place name) r at 38) (bad_markup at) s (ampersand_in_end_tag r.frames place name r at) e
 taken (attribute_name t place name) r q at s k u e =
     either_refused (has_name name t.names) (bad_markup place) (bad_markup at) s e
 taken (word place [] w) r q at s k u e = no s e
 taken (word place (l ∷ []) w) r q at s k u e =
-    blocked (step (word place (l ∷ []) w) r at 38) (bad_reference place) s (rw (key_38 l k.2.0) refl) e
+    blocked (step (word place (l ∷ []) w) r at 38) (bad_reference place) s (rw (ampersand_is_no_key l k.2.0) refl) e
 taken (word place (l ∷ m ∷ ks) w) r q at s k u e =
-    blocked (step (word place (l ∷ m ∷ ks) w) r at 38) (bad_reference place) s (rw (key_38 l k.2.0) refl) e
+    blocked (step (word place (l ∷ m ∷ ks) w) r at 38) (bad_reference place) s (rw (ampersand_is_no_key l k.2.0) refl) e
 taken (question []) r q at s k u e = no s e
 taken (question (l ∷ ks)) r q at s k u e =
-    blocked (step (question (l ∷ ks)) r at 38) (bad_markup at) s (rw (key_38 l k.0) refl) e
+    blocked (step (question (l ∷ ks)) r at 38) (bad_markup at) s (rw (ampersand_is_no_key l k.0) refl) e
 taken (other_word place first ks) r q at s k u e = absurd u
 taken p r q at s k u e = no s e
 

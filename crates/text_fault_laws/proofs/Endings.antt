@@ -26,11 +26,12 @@ use Rattle.text_fault_laws.proofs.Known.{length_names}
 use Rattle.text_fault_laws.proofs.Reach.{Reaches, over, reads, refuses}
 
 -- an end tag with another name
-shut_62 : (fs : List Frame) (inner : List ℕ) (outer : List (List ℕ)) (place : ℕ) (name : List ℕ) (r : Read) (at : ℕ)
+greater_after_wrong_name : (fs : List Frame) (inner : List ℕ) (outer : List (List ℕ)) (place : ℕ) (name : List ℕ)
+    (r : Read) (at : ℕ)
     → names_of fs ≡ inner ∷ outer → (name ≡ inner → ⊥)
     → step_shut fs place name r at 62 ≡ refused (mismatched_end place)
-shut_62 [] inner outer place name r at e other = cc
-shut_62 (f ∷ fs) inner outer place name r at e other =
+greater_after_wrong_name [] inner outer place name r at e other = cc
+greater_after_wrong_name (f ∷ fs) inner outer place name r at e other =
     let same : f.name ≡ inner = cc in
     let apart : bytes_eq name f.name ≡ false =
     false_from_ne_true (bytes_eq name f.name) (λ d. other ((bytes_eq-Decides name f.name).0 d ∙ same)) in
@@ -48,7 +49,8 @@ mismatch_ends bytes at (inner, outer, before, name, w, rest, same, is, inside, h
     ∙ sym (append_assoc before tag (62 ∷ rest)) in
     ap outcome_of whole
     ∙ refuses q s.phase c.read 62 rest (mismatched_end (length before)) here
-    (s.last (length q) ∙ shut_62 c.read.frames inner outer (length before) name c.read (length q) c.open_ones other)
+    (s.last (length q)
+    ∙ greater_after_wrong_name c.read.frames inner outer (length before) name c.read (length q) c.open_ones other)
     ∙ ap (λ n. Err (mismatched_end n)) (sym is)
 
 -- an element inside as many as may be open

@@ -36,29 +36,29 @@ pub moved : (p : Phase) (r : Read) (at b : ℕ) (bs : List ℕ) (q : Phase) (s :
     → step p r at b ≡ state q s → run p r at (b ∷ bs) ≡ Ok rows → run q s (at + 1) bs ≡ Ok rows
 moved p r at b bs q s rows d e = sym (by_step p r at b bs q s d) ∙ e
 
-pub opened_60 : (fs : List Frame) (place : ℕ) (r : Read) (at : ℕ)
+pub less_after_less : (fs : List Frame) (place : ℕ) (r : Read) (at : ℕ)
     → step_opened fs place r at 60 ≡ refused (bad_markup at)
-opened_60 [] place r at = refl
-opened_60 (f ∷ fs) place r at = refl
+less_after_less [] place r at = refl
+less_after_less (f ∷ fs) place r at = refl
 
-pub shut_60 : (fs : List Frame) (place : ℕ) (name : List ℕ) (r : Read) (at : ℕ)
+pub less_in_end_tag : (fs : List Frame) (place : ℕ) (name : List ℕ) (r : Read) (at : ℕ)
     → step_shut fs place name r at 60 ≡ refused (bad_markup at)
-shut_60 [] place name r at = refl
-shut_60 (f ∷ fs) place name r at = refl
+less_in_end_tag [] place name r at = refl
+less_in_end_tag (f ∷ fs) place name r at = refl
 
-attribute_60 : {G : Type 0} (c : Bool) (place : ℕ) (more : State → Outcome) (at : ℕ) (rows : Rows)
+less_in_attribute_name : {G : Type 0} (c : Bool) (place : ℕ) (more : State → Outcome) (at : ℕ) (rows : Rows)
     → and_then (cond c (refused (bad_markup place)) (refused (bad_markup at))) more ≡ Ok rows → G
-attribute_60 true place more at rows e = cc
-attribute_60 false place more at rows e = cc
+less_in_attribute_name true place more at rows e = cc
+less_in_attribute_name false place more at rows e = cc
 
-pub quote_60 : (quote : ℕ) → is_quote quote ≡ true → eqb 60 quote ≡ false
-quote_60 quote h = grind (arith, nat_tests)
+pub less_is_no_quote : (quote : ℕ) → is_quote quote ≡ true → eqb 60 quote ≡ false
+less_is_no_quote quote h = grind (arith, nat_tests)
 
-pub key_60 : (k : ℕ) → is_key k ≡ true → eqb 60 k ≡ false
-key_60 k h = grind (arith, nat_tests)
+pub less_is_no_key : (k : ℕ) → is_key k ≡ true → eqb 60 k ≡ false
+less_is_no_key k h = grind (arith, nat_tests)
 
-pub name_62 : (b : ℕ) → is_name b ≡ true → eqb b 62 ≡ false
-name_62 b h = grind (arith, nat_tests)
+pub greater_is_in_no_name : (b : ℕ) → is_name b ≡ true → eqb b 62 ≡ false
+greater_is_in_no_name b h = grind (arith, nat_tests)
 
 -- a comment goes on over these end tags
 comment_name : (w : List ℕ) (place : Region) (count : ℕ) (r : Read) (at : ℕ) (rest : List ℕ) → AllAre is_name w
@@ -69,7 +69,7 @@ comment_name (b ∷ w) place count r at rest h =
       l.0,
       l.1,
       by_step (in_comment place count) r at b (w ++ rest) (in_comment place (dashes count b)) r
-          (rw (name_62 b h.0) (over_dash (leb 2 count) _ _)) ∙ l.2,
+          (rw (greater_is_in_no_name b h.0) (over_dash (leb 2 count) _ _)) ∙ l.2,
     )
 
 named_bytes : (name : List ℕ) → IsName name → AllAre is_name name
@@ -99,7 +99,7 @@ declared_name (b ∷ w) seen r at rest h =
       l.0,
       l.1,
       by_step (in_declaration seen) r at b (w ++ rest) (in_declaration (eqb b 63)) r
-          (rw (name_62 b h.0) (over_dash seen _ _)) ∙ l.2,
+          (rw (greater_is_in_no_name b h.0) (over_dash seen _ _)) ∙ l.2,
     )
 
 declaration_over : (names : List (List ℕ)) (seen : Bool) (r : Read) (at : ℕ) (rows : Rows) → AreNames names
@@ -171,24 +171,28 @@ closes content r q at n ns rows h k e = open_names ns n r.frames r at rows refl 
 closes (in_comment place count) r q at n ns rows h k e = comment_over (n ∷ ns) place count r at rows h e
 closes (in_declaration seen) r q at n ns rows h k e = declaration_over (n ∷ ns) seen r at rows h e
 closes (opened place) r q at n ns rows h k e =
-    stuck (opened place) r at 60 (tag_rest n ns) (bad_markup at) rows (opened_60 r.frames place r at) e
+    stuck (opened place) r at 60 (tag_rest n ns) (bad_markup at) rows (less_after_less r.frames place r at) e
 closes (shut place name) r q at n ns rows h k e =
-    stuck (shut place name) r at 60 (tag_rest n ns) (bad_markup at) rows (shut_60 r.frames place name r at) e
+    stuck (shut place name) r at 60 (tag_rest n ns) (bad_markup at) rows (less_in_end_tag r.frames place name r at) e
 closes (shut_gap place name) r q at n ns rows h k e =
-    stuck (shut_gap place name) r at 60 (tag_rest n ns) (bad_markup at) rows (shut_60 r.frames place name r at) e
+    stuck (shut_gap place name) r at 60 (tag_rest n ns) (bad_markup at)
+    rows (less_in_end_tag r.frames place name r at) e
 closes (attribute_name t place name) r q at n ns rows h k e =
-    attribute_60 (has_name name t.names) place _ at rows e
+    less_in_attribute_name (has_name name t.names) place _ at rows e
 closes (in_value t place name quote from) r q at n ns rows h k e =
-    stuck (in_value t place name quote from) r at 60 (tag_rest n ns) (bad_markup at) rows (rw (quote_60 quote k.1) refl)
+    stuck (in_value t place name quote from) r at 60 (tag_rest n ns) (bad_markup at)
+    rows (rw (less_is_no_quote quote k.1) refl)
     e
 closes (word place [] w) r q at n ns rows h k e = absurd k.1
 closes (word place (l ∷ []) w) r q at n ns rows h k e =
-    stuck (word place (l ∷ []) w) r at 60 (tag_rest n ns) (bad_reference place) rows (rw (key_60 l k.2.0) refl) e
+    stuck (word place (l ∷ []) w) r at 60 (tag_rest n ns) (bad_reference place)
+    rows (rw (less_is_no_key l k.2.0) refl) e
 closes (word place (l ∷ m ∷ ks) w) r q at n ns rows h k e =
-    stuck (word place (l ∷ m ∷ ks) w) r at 60 (tag_rest n ns) (bad_reference place) rows (rw (key_60 l k.2.0) refl) e
+    stuck (word place (l ∷ m ∷ ks) w) r at 60 (tag_rest n ns) (bad_reference place)
+    rows (rw (less_is_no_key l k.2.0) refl) e
 closes (question []) r q at n ns rows h k e = cc
 closes (question (l ∷ ks)) r q at n ns rows h k e =
-    stuck (question (l ∷ ks)) r at 60 (tag_rest n ns) (bad_markup at) rows (rw (key_60 l k.0) refl) e
+    stuck (question (l ∷ ks)) r at 60 (tag_rest n ns) (bad_markup at) rows (rw (less_is_no_key l k.0) refl) e
 closes (other_word place first ks) r q at n ns rows h k e =
     other_lost (end_tags (n ∷ ns)) place first ks r at rows e
 closes p r q at n ns rows h k e = cc

@@ -60,16 +60,16 @@ content_colon [] r q s is here e never = no s e
 content_colon (f ∷ fs) r q s is here e never =
     goes_on content content r (record r { frames = noted f (length q) 58 ∷ fs }) q 58 here (rw is refl) tt never
 
-quoted_58 : (quote : ℕ) → is_quote quote ≡ true → is_quoted quote 58 ≡ true
-quoted_58 quote h = grind (arith, nat_tests)
+colon_is_quoted : (quote : ℕ) → is_quote quote ≡ true → is_quoted quote 58 ≡ true
+colon_is_quoted quote h = grind (arith, nat_tests)
 
-key_95 : (k : ℕ) → is_key k ≡ true → eqb 95 k ≡ false
-key_95 k h = grind (arith, nat_tests)
+underscore_is_no_key : (k : ℕ) → is_key k ≡ true → eqb 95 k ≡ false
+underscore_is_no_key k h = grind (arith, nat_tests)
 
-shut_95 : (fs : List Frame) (place : ℕ) (name : List ℕ) (r : Read) (at : ℕ)
+underscore_in_end_tag : (fs : List Frame) (place : ℕ) (name : List ℕ) (r : Read) (at : ℕ)
     → step_shut fs place name r at 95 ≡ refused (bad_markup at)
-shut_95 [] place name r at = refl
-shut_95 (f ∷ fs) place name r at = refl
+underscore_in_end_tag [] place name r at = refl
+underscore_in_end_tag (f ∷ fs) place name r at = refl
 
 -- after a name, a byte with which nothing is begun more is this fault's, or a repeated name's
 colon_fault : (q rest : List ℕ) (p : Phase) (r : Read) → Reaches q p r
@@ -87,7 +87,7 @@ colon_there (in_declaration seen) r q rest before name s here k u hn same e neve
     goes_on (in_declaration seen) (in_declaration false) r r q 58 here (over_dash seen _ _) tt never
 colon_there (in_value t place n quote from) r q rest before name s here k u hn same e never =
     goes_on (in_value t place n quote from) (in_value t place n quote from) r r q 58 here
-    (rw (quoted_58 quote k.1) refl) tt never
+    (rw (colon_is_quoted quote k.1) refl) tt never
 colon_there (start_name place n) r q rest before name s here k u hn same e never =
     colon_fault q rest (start_name place n) r here refl
 colon_there (shut place n) r q rest before name s here k u hn same e never =
@@ -110,16 +110,20 @@ colon_there (shut_begin place) r q rest before name s here k u hn same e never =
 colon_there (in_tag t) r q rest before name s here k u hn same e never =
     no_end q k.1 before name k.2 hn same k.4 (white_isnt_name k.2 k.3)
 colon_there (shut_gap place n) r q rest before name s here k u hn same e never =
-    blocked (step (shut_gap place n) r (length q) 95) (bad_markup (length q)) s (shut_95 r.frames place n r (length q))
+    blocked (step (shut_gap place n) r (length q) 95) (bad_markup (length q))
+    s (underscore_in_end_tag r.frames place n r (length q))
     e
 colon_there (word place [] w) r q rest before name s here k u hn same e never = no s e
 colon_there (word place (l ∷ []) w) r q rest before name s here k u hn same e never =
-    blocked (step (word place (l ∷ []) w) r (length q) 95) (bad_reference place) s (rw (key_95 l k.2.0) refl) e
+    blocked (step (word place (l ∷ []) w) r (length q) 95) (bad_reference place)
+    s (rw (underscore_is_no_key l k.2.0) refl) e
 colon_there (word place (l ∷ m ∷ ks) w) r q rest before name s here k u hn same e never =
-    blocked (step (word place (l ∷ m ∷ ks) w) r (length q) 95) (bad_reference place) s (rw (key_95 l k.2.0) refl) e
+    blocked (step (word place (l ∷ m ∷ ks) w) r (length q) 95) (bad_reference place)
+    s (rw (underscore_is_no_key l k.2.0) refl) e
 colon_there (question []) r q rest before name s here k u hn same e never = no s e
 colon_there (question (l ∷ ks)) r q rest before name s here k u hn same e never =
-    blocked (step (question (l ∷ ks)) r (length q) 95) (bad_markup (length q)) s (rw (key_95 l k.0) refl) e
+    blocked (step (question (l ∷ ks)) r (length q) 95) (bad_markup (length q))
+    s (rw (underscore_is_no_key l k.0) refl) e
 colon_there (other_word place first ks) r q rest before name s here k u hn same e never = absurd u
 colon_there p r q rest before name s here k u hn same e never = no s e
 

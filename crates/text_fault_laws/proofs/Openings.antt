@@ -13,7 +13,7 @@ use Rattle.text_fault_laws.specs.Fronts.{InstructionAt, IsFront, IsOtherWord, Ot
 use Rattle.text_fault_laws.proofs.Begun.{Usual, blocked, either_refused, front_arrives, one_back, past_dash}
 use Rattle.text_fault_laws.proofs.Begun.{usual_phase}
 use Rattle.text_fault_laws.proofs.Forth.{history}
-use Rattle.text_fault_laws.proofs.Inside.{key_60, opened_60, quote_60, shut_60}
+use Rattle.text_fault_laws.proofs.Inside.{less_is_no_key, less_after_less, less_is_no_quote, less_in_end_tag}
 use Rattle.text_fault_laws.proofs.LiveParts.{opened_bang, over_dash}
 use Rattle.text_fault_laws.proofs.Known.{Past, alive, front_of}
 use Rattle.text_fault_laws.proofs.Live.{AreNamed}
@@ -33,15 +33,15 @@ opening : (at : ℕ) (p : Phase) (r : Read) (s : State) → Opens at p → state
 opening at p r s k e =
     let same : record { phase = p; read = r } ≡ s = cc in subst (λ (x : State). Opens at x.phase) same k
 
-content_60 : (fs : List Frame) (r : Read) (at : ℕ) (s : State) → step_content fs r at 60 ≡ Ok s → Opens at s.phase
-content_60 [] r at s e = opening at (opened at) r s refl e
-content_60 (f ∷ fs) r at s e = opening at (opened at) r s refl e
+less_in_content : (fs : List Frame) (r : Read) (at : ℕ) (s : State) → step_content fs r at 60 ≡ Ok s → Opens at s.phase
+less_in_content [] r at s e = opening at (opened at) r s refl e
+less_in_content (f ∷ fs) r at s e = opening at (opened at) r s refl e
 
 opens : (p : Phase) (r : Read) (q : List ℕ) (at : ℕ) (s : State) → Past p r.frames q → Usual p → step p r at 60 ≡ Ok s
     → Opens at s.phase
 opens beginning r q at s k u e = opening at (declared_open at) r s refl e
 opens at_declaration r q at s k u e = opening at (declared_open at) r s refl e
-opens content r q at s k u e = content_60 r.frames r at s e
+opens content r q at s k u e = less_in_content r.frames r at s e
 opens ended r q at s k u e = opening at (ended_open at) r s refl e
 opens (in_comment place count) r q at s k u e =
     opening at (in_comment place 0) r s tt (past_dash (leb 2 count) (state (phase_of place) r)
@@ -50,23 +50,23 @@ opens (in_declaration seen) r q at s k u e =
     opening at (in_declaration false) r s tt (past_dash seen (state content (closed r)) (state (in_declaration false) r)
     s e)
 opens (in_value t place name quote from) r q at s k u e =
-    blocked (step (in_value t place name quote from) r at 60) (bad_markup at) s (rw (quote_60 quote k.1) refl) e
+    blocked (step (in_value t place name quote from) r at 60) (bad_markup at) s (rw (less_is_no_quote quote k.1) refl) e
 opens (opened place) r q at s k u e = blocked (step (opened place) r at 60) (bad_markup at) s
-    (opened_60 r.frames place r at) e
+    (less_after_less r.frames place r at) e
 opens (shut place name) r q at s k u e =
-    blocked (step (shut place name) r at 60) (bad_markup at) s (shut_60 r.frames place name r at) e
+    blocked (step (shut place name) r at 60) (bad_markup at) s (less_in_end_tag r.frames place name r at) e
 opens (shut_gap place name) r q at s k u e =
-    blocked (step (shut_gap place name) r at 60) (bad_markup at) s (shut_60 r.frames place name r at) e
+    blocked (step (shut_gap place name) r at 60) (bad_markup at) s (less_in_end_tag r.frames place name r at) e
 opens (attribute_name t place name) r q at s k u e =
     either_refused (has_name name t.names) (bad_markup place) (bad_markup at) s e
 opens (word place [] w) r q at s k u e = no s e
 opens (word place (l ∷ []) w) r q at s k u e =
-    blocked (step (word place (l ∷ []) w) r at 60) (bad_reference place) s (rw (key_60 l k.2.0) refl) e
+    blocked (step (word place (l ∷ []) w) r at 60) (bad_reference place) s (rw (less_is_no_key l k.2.0) refl) e
 opens (word place (l ∷ m ∷ ks) w) r q at s k u e =
-    blocked (step (word place (l ∷ m ∷ ks) w) r at 60) (bad_reference place) s (rw (key_60 l k.2.0) refl) e
+    blocked (step (word place (l ∷ m ∷ ks) w) r at 60) (bad_reference place) s (rw (less_is_no_key l k.2.0) refl) e
 opens (question []) r q at s k u e = no s e
 opens (question (l ∷ ks)) r q at s k u e =
-    blocked (step (question (l ∷ ks)) r at 60) (bad_markup at) s (rw (key_60 l k.0) refl) e
+    blocked (step (question (l ∷ ks)) r at 60) (bad_markup at) s (rw (less_is_no_key l k.0) refl) e
 opens (other_word place first ks) r q at s k u e = absurd u
 opens p r q at s k u e = no s e
 
@@ -91,10 +91,10 @@ opened_front x front =
     }
 
 -- no instruction stands there
-opened_63 : (fs : List Frame) (place : ℕ) (r : Read) (at : ℕ)
+question_after_less : (fs : List Frame) (place : ℕ) (r : Read) (at : ℕ)
     → step_opened fs place r at 63 ≡ refused (unsupported place)
-opened_63 [] place r at = refl
-opened_63 (f ∷ fs) place r at = refl
+question_after_less [] place r at = refl
+question_after_less (f ∷ fs) place r at = refl
 
 instruction : (p : Phase) (r : Read) (q : List ℕ) (at : ℕ) → Reaches q p r → AreNamed r.frames → Opens at p
     → (IsFront (q ++ 63 ∷ []) → ⊥) → step p r (length q) 63 ≡ refused (unsupported at)
@@ -104,7 +104,7 @@ instruction (declared_open place) r q at here h k never =
     refl)
     (live_question (120 ∷ 109 ∷ 108 ∷ []) r)))
 instruction (opened place) r q at here h k never =
-    opened_63 r.frames place r (length q) ∙ ap (λ n. refused (unsupported n)) k
+    question_after_less r.frames place r (length q) ∙ ap (λ n. refused (unsupported n)) k
 instruction (ended_open place) r q at here h k never = ap (λ n. refused (unsupported n)) k
 instruction (in_comment place count) r q at here h k never =
     let t : Phase = in_comment place 0 in

@@ -9,7 +9,7 @@ use khe_base::{NoMemory, Text};
 /// characters that turn the direction of the text around them by their numbers, as `[U+202E]`, and each other
 /// character as it is.
 ///
-/// Its only error is want of memory. It takes time and memory linear in the text.
+/// It fails only where memory is refused. It takes time and memory linear in the text.
 pub(crate) fn push_escaped(page: &mut Text, text: &Text) -> Result<(), NoMemory>
     ensures { OnOk result (page.new ≡ page.old ++ escaped text.now) }
 {

@@ -37,7 +37,7 @@ named_at n first e = record {
   first = first;
 }
 
--- the resources that are given, and those that an entry gives
+-- the resources that are given, and the resources that an entry gives
 abbrev pub numbered_in : PartNames → List RawGiven → List ResourceId
 numbered_in n gs = map (λ g. resource_numbered n g.reference) gs
 

@@ -21,7 +21,7 @@ use xhstt_shape::{Entries, EntryView, GivenViews, NameView};
 pub struct Named {
     pub event: EventId,
     pub time: Option<TimeId>,
-    /// Where its resources begin among those that all entries give.
+    /// Where its resources begin among the resources that all entries give.
     pub first: u32,
 }
 

@@ -1,19 +1,19 @@
-//! How names are hashed: from a number on that is drawn from the names themselves.
+//! How names are hashed: beginning with a number that is drawn from the names themselves.
 
 use std::hash::{BuildHasher, DefaultHasher, FoldHasher, Hasher};
 
 /// The number that the hashes of some names begin with, drawn from these names.
 ///
-/// The fast hash that finds a name is no secret, so that names which share a hash under a number that is
-/// known beforehand can be computed. This number comes of a stronger hash of all names together, so that
-/// with each name it is another one.
+/// The fast hash that finds a name is no secret, so names that share a hash can be computed for any number
+/// known beforehand. This number is a stronger hash of all names together, so nearly every change of a name
+/// changes it, and such names are costly to find.
 #[derive(Clone, Copy)]
 pub struct Seed {
     state: DefaultHasher,
 }
 
 impl Seed {
-    /// That of no names.
+    /// The number that hashes of no names begin with.
     pub fn new() -> Seed {
         Seed {
             state: DefaultHasher::new(),

@@ -24,13 +24,12 @@ use xhstt_shape::{Archive, RawEvent, RawInstance, Ref};
 
 /// The names of an instance's parts, or the first fault of its names and references.
 ///
-/// These are looked for in turn, and of each the first in the text is the fault: an Id that a part
-/// of the same sort has too (`DUPLICATE_ID`, at the second one), where weeks and days are time
-/// groups and courses are event groups; a reference that names no part of its sort
-/// (`UNKNOWN_REFERENCE`), where a week, a day and a course are to be named as such; a role that an
-/// earlier place of the same event has too (`DUPLICATE_ROLE`, at the second one); and a preassigned
-/// time from which the event would go on beyond the last time (`EVENT_OFF_END`). These are the
-/// rules of the XHSTT format, and the order is this project's.
+/// These are looked for in turn, and of each the first in the text is the fault: an Id that an earlier part of
+/// the same sort has (`DUPLICATE_ID`, at the second one), where weeks and days are time groups and courses are
+/// event groups; a reference that names no part of its sort (`UNKNOWN_REFERENCE`), where a week, a day and a
+/// course are to be named as such; a role that an earlier place of the same event has (`DUPLICATE_ROLE`, at the
+/// second one); and a preassigned time so late that the event would run past the last time (`EVENT_OFF_END`).
+/// These are the rules of the XHSTT format, and the order is this project's.
 ///
 /// Memory is taken in proportion to the Ids, and where it is refused, `NoMemory` comes. The time is
 /// linear in the instance's text on average, since each reference is looked up by its hash.

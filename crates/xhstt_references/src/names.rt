@@ -34,9 +34,9 @@ impl Model for Names {
 impl Names {
     /// No names, whose hashes will begin with this number. It takes no memory.
     ///
-    /// Where the number is a `Seed`'s of all names that are to come, nobody can write down names
-    /// beforehand that take more time than others: names that share a hash under one number do not under
-    /// the next.
+    /// Where the number is a `Seed`'s of all names that are to come, it is costly, though not impossible, to
+    /// find names beforehand that take more time than others: names that share a hash under one number seldom
+    /// do under another, and a name that is added nearly always changes the number.
     pub fn new(alloc: Global, seed: u64) -> Names
         ensures { result ≡ [] }
     {

@@ -16,7 +16,7 @@ use khe_base::NoMemory;
 use std::alloc::Global;
 use xhstt_shape::{EventGroup, GroupSort, Name, RawEvent, RawEventResource, TimeGroup, TimeSort};
 
-/// Adds a name to those that came before, and notes its place if it is among them.
+/// Adds a name to the names that came before, and notes its place if it is among them.
 fn note_repeated(names: &mut Names, name: &Name, first: &mut First) -> Result<(), NoMemory>
     ensures names { OnOk result (names.new ≡ with_name name.now.text names.old) }
     ensures first { OnOk result (first.new.at ≡ first_of first.old.at (if is_among_names name.now.text names.old then name.now.at ∷ [] else [])) }
@@ -47,8 +47,8 @@ fn seed_of_roles(places: &[RawEventResource]) -> u64 {
     seed.number()
 }
 
-/// The Ids of some items with their numbers; the places of those that came before are noted. It
-/// takes time and memory in proportion to the Ids, on average.
+/// The Ids of some items with their numbers; the places of Ids that came before are noted. It takes time and
+/// memory in proportion to the Ids, on average.
 pub(crate) fn names_of<T: HasId>(
     alloc: Global,
     items: &[T],
@@ -126,8 +126,7 @@ fn note_repeated_roles(alloc: Global, event: &RawEvent, first: &mut First) -> Re
     Ok(())
 }
 
-/// Adds a role that may be missing to those that came before, and notes its place if it is among
-/// them.
+/// Adds a role that may be missing to the roles that came before, and notes its place if it is among them.
 #[tactic(auto, using(crate::proofs::FirstLemmas::first_of_nil))]
 fn note_repeated_role(
     names: &mut Names,

@@ -73,8 +73,8 @@ pub fn instances_of_solutions(
     })
 }
 
-/// Adds the numbers of the instances that some solutions name, where there are such, and what their
-/// entries name, and notes the places of the solutions' references that name nothing.
+/// Adds the numbers of the instances that some solutions name, where there are such instances, and what the
+/// solutions' entries name, and notes the places of the solutions' references that name nothing.
 fn add_solutions(
     alloc: Global,
     instances: &Names,

@@ -1,4 +1,4 @@
--- What an answer of the resolver tells of the first fault.
+-- What an answer of the resolver says of the first fault.
 use Rattle.std.specs.Prelude.{◌≡◌, Option, Some, None, Result, Err}
 use Rattle.fault_tables.specs.Told.{Tells}
 use Rattle.xhstt_resolve.specs.declared.faults.ResolveFault.{ResolveFault}

@@ -1,4 +1,4 @@
--- A constraint followed out: its points in order, each with how much is watched there.
+-- A constraint expanded: its points in order, each with how much is watched there.
 use Rattle.std.specs.Prelude.{ℕ, ◌+◌, ◌-◌, ◌^◌, min, Option, Some, None, List, [], ◌∷◌, ◌++◌, map}
 use Rattle.std.specs.List.{enumerate_from, filter, flat_map}
 use Rattle.khe_instance.specs.declared.points.Point.{Point}

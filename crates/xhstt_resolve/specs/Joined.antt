@@ -13,7 +13,7 @@ ends_with k (n ∷ m ∷ ns) = ends_with k (m ∷ ns)
 abbrev pub with_last : ℕ → List ℕ → List ℕ
 with_last k ns = if ends_with k ns then ns else ns ++ k ∷ []
 
--- the lists of the groups with these Ids, once an item with a number has joined those that it names
+-- the lists of the groups with these Ids, once an item with a number has joined the groups that it names
 abbrev pub joined : ℕ → List (List ℕ) → List (List ℕ) → List (List ℕ) → List (List ℕ)
 joined k names [] lists = lists
 joined k names (id ∷ ids) [] = []

@@ -74,7 +74,7 @@ listed_groups (ruled.ClusterBusyTimes groups least greatest) = length groups
 listed_groups (ruled.LimitBusyTimes groups least greatest) = length groups
 listed_groups (ruled.LimitWorkload least greatest) = 0
 
--- how many times a constraint on resources watches at each of them: those that it lists, with repeats
+-- how many times a constraint on resources watches at each of them: the times that it lists, with repeats
 abbrev pub watched_times : RawInstance → RawRule → ℕ
 watched_times i ruled.AssignTime = 1
 watched_times i (ruled.AssignResource role) = 1

@@ -1,4 +1,4 @@
--- The members of a group in the order of the archive, and what a list of references lists: its groups followed out,
+-- The members of a group in the order of the archive, and what a list of references lists: its groups expanded,
 -- and then its single items.
 use Rattle.std.specs.Prelude.{ℕ, ◌+◌, ◌==◌, Bool, not, if◌then◌else◌, List, [], ◌∷◌, ◌++◌, map, length}
 use Rattle.std.specs.List.{filter, filter_map, flat_map, fold}

@@ -22,9 +22,9 @@ use xhstt_shape::RawInstance;
 
 /// The parts of an instance that keeps its limits and has this unit.
 ///
-/// It takes time in proportion to the instance with its groups followed out, and besides to the
-/// sets that it makes: event groups times events, listed time groups times times, and constraints
-/// times the items of the sort that they apply to. It takes memory in proportion to what it makes.
+/// It takes time in proportion to the instance with its groups expanded, and besides to the sets that it makes:
+/// event groups times events, listed time groups times times, and constraints times the items of the sort that
+/// they apply to. It takes memory in proportion to what it makes.
 pub(crate) fn parts_of(
     alloc: Global,
     lookup: &Lookup<'_>,

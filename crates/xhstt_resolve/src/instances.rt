@@ -35,9 +35,8 @@ use xhstt_shape::RawInstance;
 /// The instance with these names, which has no fault of names and references, or the first limit that
 /// it is above.
 ///
-/// Nothing is made of what is above a limit: places, monitors and watches are counted first. It takes
-/// time in proportion to the instance with its groups followed out, twice, and to the sets that it
-/// makes.
+/// Nothing is made of what is above a limit: places, monitors and watches are counted first. It takes time in
+/// proportion to the instance with its groups expanded, twice, and to the sets that it makes.
 pub(crate) fn instance_of(
     alloc: Global,
     raw: &RawInstance,

@@ -1,5 +1,5 @@
-//! The instances of an XHSTT archive: references are followed, groups are followed out into their
-//! members and constraints into their monitors, or the archive's first fault is named.
+//! The instances of an XHSTT archive: references are followed, groups are expanded into their members and
+//! constraints into their monitors, or the archive's first fault is named.
 #![tactic(auto)]
 
 mod building;

@@ -1,4 +1,4 @@
-//! Following constraints out into monitors.
+//! Expanding constraints into monitors.
 
 ghost use Rattle.std.specs.Prelude.{◌≡◌, ◌++◌, IfOk};
 ghost use Rattle.khe_instance.specs.Kinds.{kind_of};
@@ -39,11 +39,11 @@ impl Follow for Monitors {
     }
 }
 
-/// The monitors: the constraints in order, each followed out into its points.
+/// The monitors: the constraints in order, each expanded into its points.
 ///
-/// It takes time in proportion to what the constraints apply to and the times that they list, with
-/// their groups followed out, and for each constraint to all items of the sort that it applies to, on
-/// average; and memory in proportion to the monitors and those items.
+/// It takes time in proportion to what the constraints apply to and the times that they list, with their groups
+/// expanded, and for each constraint to all items of the sort that it applies to, on average; and memory in
+/// proportion to the monitors and those items.
 pub(crate) fn monitors_of(
     alloc: Global,
     lookup: &Lookup<'_>,

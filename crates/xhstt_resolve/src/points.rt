@@ -42,12 +42,12 @@ pub(crate) trait Follow {
 /// Follows a constraint out: its points are met in their order, each at its first mention, with how
 /// much each watches.
 ///
-/// It takes time in proportion to what the constraint applies to and the times that it lists, with
-/// their groups followed out, and to all items of the sort that it applies to, on average. Of each
-/// event the place with a role is found in time in proportion to the logarithm of how many event
-/// resources have it, and where none has it, no event is looked at. It takes memory in proportion to
-/// those items, besides what meeting takes. Where memory is refused some points may have been met.
-/// More than 2 ^ 32 pairs are refused alike, since no point has such a number.
+/// It takes time in proportion to what the constraint applies to and the times that it lists, with their groups
+/// expanded, and to all items of the sort that it applies to, on average. Of each event the place with a role
+/// is found in time in proportion to the logarithm of how many event resources have it, and where none has it,
+/// no event is looked at. It takes memory in proportion to those items, besides what meeting takes. Where
+/// memory is refused some points may have been met. More than 2 ^ 32 pairs are refused alike, since no point
+/// has such a number.
 pub(crate) fn follow_out<F: Follow>(
     alloc: Global,
     lookup: &Lookup<'_>,

@@ -46,17 +46,16 @@ struct Made {
 /// The instances of an archive, and of each solution the instance and what the entries name there, or the
 /// archive's first fault.
 ///
-/// A constraint is followed out into its points, and each point becomes a monitor at its first
-/// mention: the members of listed groups, group by group in the order of the archive, and then those
-/// that are listed by themselves. The faults are looked for in this order: Ids of instances and then
-/// of solution groups that came before; of each instance in turn, its Ids, its references, its roles,
-/// events that would go on beyond the last time, and the limits in the order of their numbers; the
-/// number of solutions; and references of the solutions. Of one kind it is the first in the text.
+/// A constraint is expanded into its points, and each point becomes a monitor at its first mention: the members
+/// of listed groups, group by group in the order of the archive, and then the points that are listed singly.
+/// The faults are looked for in this order: Ids of instances and then of solution groups that came before; of
+/// each instance in turn, its Ids, its references, its roles, events that would go on beyond the last time, and
+/// the limits in the order of their numbers; the number of solutions; and references of the solutions. Of one
+/// kind it is the first in the text.
 ///
-/// The archive is in form, as each one is that is read from a text. Memory is taken for the
-/// instances and for the numbers that the solutions' references lead to, and where it is refused,
-/// `NoMemory` comes. The time is about linear in the archive with its groups followed out, on average,
-/// and in the sets of the instances.
+/// The archive is in form, as each one is that is read from a text. Memory is taken for the instances and for
+/// the numbers that the solutions' references lead to, and where it is refused, `NoMemory` comes. The time is
+/// about linear in the archive with its groups expanded, on average, and in the sets of the instances.
 ///
 /// The sources are the pages of the XHSTT format; the limits and the order are this project's.
 pub fn resolve(alloc: Global, archive: &Archive) -> Result<Resolved, ResolveFault>
@@ -129,7 +128,7 @@ fn made_instances(alloc: Global, raws: &[RawInstance], solved: bool) -> Result<M
     Ok(made)
 }
 
-/// No instances, with room for so many, and for their names where there are solutions.
+/// No instances, with room for the given number, and for their names where there are solutions.
 fn room_for(alloc: Global, count: usize, solved: bool) -> Result<Made, NoMemory>
     ensures instances { IfOk result (λ made. made.instances ≡ []) }
     ensures names { IfOk result (λ made. made.names ≡ []) }
@@ -139,7 +138,7 @@ fn room_for(alloc: Global, count: usize, solved: bool) -> Result<Made, NoMemory>
     Ok(Made { instances, names })
 }
 
-/// An empty list with room for so many.
+/// An empty list with room for the given number of items.
 fn with_room<T>(alloc: Global, count: usize) -> Result<Seq<T>, NoMemory>
     ensures { IfOk result (λ list. list ≡ []) }
 {

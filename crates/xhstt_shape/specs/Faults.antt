@@ -1,4 +1,4 @@
--- What a look at a part of a tree ends in: it goes on, or there is a fault, a kind and a byte.
+-- How a look at a part of a tree ends: it goes on, or there is a fault, which has a kind and a byte.
 use Rattle.std.specs.Prelude.{ℕ, ◌≡◌, Bool, true, false, Option, Some, None, Result, Ok, Err}
 use Rattle.fault_tables.specs.Told.{Tells}
 use Rattle.xhstt_shape.specs.declared.faults.ShapeFault.{ShapeFault}

@@ -15,7 +15,7 @@ use Rattle.xhstt_shape.specs.Words.{word}
 abbrev pub is_named : List ℕ → Child → Bool
 is_named name c = bytes_eq (word c.tag) name
 
--- a name of the table is among those that may not come again exactly where its bit is set
+-- a name of the table is among the names that may not come again exactly where its bit is set
 pub record IsSeen (rules : List Child) (seen : ℕ) (tags : List Tag) : Type 0 where
   pub same : (name : List ℕ) (place : ℕ) → position (is_named name) rules ≡ Some place
       → has_bit seen place ≡ is_among name tags

@@ -3,8 +3,8 @@
 use crate::records::{Name, Ref};
 use khe_base::{CostFn, Seq, Text};
 
-/// A constraint. In all of them the lower bounds are at most 1,000,000, and 0 where they are
-/// missing; the upper bounds are at most 2,147,483,647, which they are where they are missing.
+/// A constraint. In every kind a lower bound is at most 1,000,000, and 0 where it is missing; an upper bound is
+/// at most 2,147,483,647, and that number where it is missing.
 pub struct RawConstraint {
     pub id: Name,
     /// Empty where it is missing.

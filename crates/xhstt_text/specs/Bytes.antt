@@ -1,5 +1,5 @@
--- The sorts of bytes that a text is made of: white, the letters of names, digits, and what may stand in text and
--- values.
+-- The classes of bytes that a text is made of: white space, the letters of names, digits, and what may stand in
+-- text and values.
 use Rattle.std.specs.Prelude.{ℕ, ◌≡◌, Bool, true, false, not, ◌&&◌, ◌||◌, ◌==◌, nat_le, ◌≤◌, suc, if◌then◌else◌, List}
 use Rattle.std.specs.Prelude.{[], ◌∷◌}
 

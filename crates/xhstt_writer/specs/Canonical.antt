@@ -73,7 +73,7 @@ applies_parts (applied.Pairs pairs) = list_of tag.EventPairs (each (λ _. tag.Ev
 applies_parts (applied.Resources groups resources) =
     references tag.ResourceGroups tag.ResourceGroup groups ∷ (references tag.Resources tag.Resource resources ∷ [])
 
--- the children of a constraint after those that each constraint has
+-- the children of a constraint after the children that each constraint has
 abbrev pub rule_parts : RawRule → List Part
 rule_parts ruled.AssignTime = []
 rule_parts (ruled.AssignResource r) = one tag.Role (role r) ∷ []
