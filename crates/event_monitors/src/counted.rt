@@ -7,7 +7,7 @@ use crate::turns::turn_all;
 use family_keepers::Keeper;
 use khe_base::{MonitorId, NoMemory, beside};
 use khe_instance::{Instance, Kind};
-use khe_told::{Told, Turn, Waits};
+use khe_told::{Effects, Told, Turn, Waits};
 use std::alloc::Global;
 
 /// A keeper that has a gauge for each monitor that it serves. It is lent the told state.
@@ -41,6 +41,8 @@ impl<G: Gauge + Drop> Keeper for Counted<G> {
         × (length f.gauges.items ≡ length f.index.posts) × AreKept G.Keeps p f.index.posts f.gauges.items s
         × ArePlaces f.index.posts f.index.places.items };
 
+    ghost Foresees = { λ f p ts. ⊥ };
+
     fn open(alloc: Global, inst: &Instance) -> Result<Counted<G>, NoMemory> {
         let index = Index::open::<G>(alloc, inst)?;
         let gauges = gauges_of(alloc, inst, index.posts.as_slice());
@@ -64,5 +66,36 @@ impl<G: Gauge + Drop> Keeper for Counted<G> {
     fn deviation(&self, inst: &Instance, monitor: MonitorId) -> u64 {
         let k = self.index.place_of(monitor);
         self.gauges[k].value(inst, self.index.posts.as_slice()[k].monitor)
+    }
+
+    fn foresees(&self, inst: &Instance, effects: &Effects<'_>) -> bool {
+        let _ = inst;
+        let _ = effects;
+        false
+    }
+
+    fn queue_affected<W: Waits>(
+        &self,
+        inst: &Instance,
+        told: &Told,
+        effects: &Effects<'_>,
+        waits: &mut W,
+    ) {
+        let _ = inst;
+        let _ = told;
+        let _ = effects;
+        let _ = waits;
+    }
+
+    fn deviation_after(
+        &self,
+        inst: &Instance,
+        told: &Told,
+        effects: &Effects<'_>,
+        monitor: MonitorId,
+    ) -> u64 {
+        let _ = told;
+        let _ = effects;
+        self.deviation(inst, monitor)
     }
 }

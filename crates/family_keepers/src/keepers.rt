@@ -8,12 +8,13 @@ ghost use Rattle.khe_instance.specs.declared.rules.Kind.{Kind};
 ghost use Rattle.khe_told.specs.declared.slots.Slot.{Slot};
 ghost use Rattle.khe_told.specs.Slots.{no_meets};
 ghost use Rattle.khe_told.specs.Agreement.{deviation_in};
-ghost use Rattle.khe_told.specs.Turns.{AreWatchers, IsTurn, turned};
+ghost use Rattle.khe_told.specs.Effects.{AreTurns, turned_all};
+ghost use Rattle.khe_told.specs.Turns.{AreWatchers, IsTurn, SlotTurn, turned};
 ghost use Rattle.khe_told.specs.Waits.{AreUnmoved, WaitOn};
 
 use khe_base::{MonitorId, NoMemory};
 use khe_instance::{Instance, Kind};
-use khe_told::{Told, Turn, Waits};
+use khe_told::{Effects, Told, Turn, Waits};
 use std::alloc::Global;
 
 /// Keeps up to date, slot by slot, what the deviations of the monitors of some kinds are computed from. Several
@@ -27,6 +28,9 @@ pub trait Keeper {
 
     /// It was opened on the instance with these parts and keeps what it should of these slots.
     ghost Keeps: { Self → Parts → List Slot → Type 0 };
+
+    /// That it can tell the deviations after effects without a change.
+    ghost Foresees: { Self → Parts → List SlotTurn → Type 0 };
 
     /// A keeper while there are no meets. It sizes all that it will need; no other call takes memory.
     fn open(alloc: Global, inst: &Instance) -> Result<Self, NoMemory>
@@ -56,5 +60,45 @@ pub trait Keeper {
         requires known { monitor.0 < length inst.now.monitors }
         requires served { IfSome (slice_get inst.now.monitors monitor.0) (λ m. serves_kind m.kind ≡ true) }
         ensures value { (s : List Slot) → Keeps self.now inst.now s → option_map (deviation_in inst.now s) (slice_get inst.now.monitors monitor.0) ≡ Some result }
+        ensures small { result ≤ GREATEST_DEVIATION };
+
+    /// Whether `queue_affected` and `deviation_after` may be asked about these effects. It takes constant time.
+    fn foresees(&self, inst: &Instance, effects: &Effects<'_>) -> bool
+        ensures { result ≡ true → Foresees self.now inst.now effects.now };
+
+    /// Queues each monitor that it serves whose deviation may be another after the effects. What is told is the state
+    /// before them.
+    fn queue_affected<W: Waits>(
+        &self,
+        inst: &Instance,
+        told: &Told,
+        effects: &Effects<'_>,
+        waits: &mut W,
+    )
+        requires keeps { Keeps self.now inst.now told.now }
+        requires turns { AreTurns inst.now told.now effects.now }
+        requires foreseen { Foresees self.now inst.now effects.now }
+        requires monitors { W.monitors waits.old ≡ length inst.now.monitors }
+        ensures monitors { W.monitors waits.new ≡ W.monitors waits.old }
+        ensures unmoved { W.hears ≡ true → AreUnmoved inst.now serves_kind (W.waits waits.new) told.now
+            (turned_all told.now effects.now) }
+        ensures kept { WaitOn (W.waits waits.old) (W.waits waits.new) };
+
+    /// The deviation that a monitor of a kind that it serves would have after the effects: at most
+    /// `GREATEST_DEVIATION`. What is told is the state before them.
+    fn deviation_after(
+        &self,
+        inst: &Instance,
+        told: &Told,
+        effects: &Effects<'_>,
+        monitor: MonitorId,
+    ) -> u64
+        requires keeps { Keeps self.now inst.now told.now }
+        requires turns { AreTurns inst.now told.now effects.now }
+        requires foreseen { Foresees self.now inst.now effects.now }
+        requires known { monitor.0 < length inst.now.monitors }
+        requires served { IfSome (slice_get inst.now.monitors monitor.0) (λ m. serves_kind m.kind ≡ true) }
+        ensures value { option_map (deviation_in inst.now (turned_all told.now effects.now))
+            (slice_get inst.now.monitors monitor.0) ≡ Some result }
         ensures small { result ≤ GREATEST_DEVIATION };
 }

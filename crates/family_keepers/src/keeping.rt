@@ -12,7 +12,7 @@ ghost use Rattle.family_keepers.specs.Takes.{AreTaken, AreWatchersAt, IsMix, Men
 use crate::keepers::Keeper;
 use khe_base::{MeetId, MonitorId, NoMemory};
 use khe_instance::{Instance, Kind};
-use khe_told::{Change, Family, Places, Told, Waits};
+use khe_told::{Change, Effects, Family, Places, Told, Waits};
 use std::alloc::Global;
 
 /// The family of a keeper: what was told, in one place for all that the keeper is made of.
@@ -241,6 +241,8 @@ impl<K: Keeper + Drop> Family for Keeping<K> {
 
     ghost IsOf = { λ f p. K.Keeps f.keeper p f.told × (f.ahead ≡ f.told) × AreTold p f.told };
 
+    ghost Foresees = { λ f p ts. K.Foresees f.keeper p ts };
+
     fn open(alloc: Global, inst: &Instance) -> Result<Keeping<K>, NoMemory> {
         let told = Told::open(alloc, inst)?;
         let ahead = Told::open(alloc, inst)?;
@@ -279,5 +281,18 @@ impl<K: Keeper + Drop> Family for Keeping<K> {
 
     fn deviation(&self, inst: &Instance, monitor: MonitorId) -> u64 {
         self.keeper.deviation(inst, monitor)
+    }
+
+    fn foresees(&self, inst: &Instance, effects: &Effects<'_>) -> bool {
+        self.keeper.foresees(inst, effects)
+    }
+
+    fn queue_affected<W: Waits>(&self, inst: &Instance, effects: &Effects<'_>, waits: &mut W) {
+        self.keeper.queue_affected(inst, &self.told, effects, waits);
+    }
+
+    fn deviation_after(&self, inst: &Instance, effects: &Effects<'_>, monitor: MonitorId) -> u64 {
+        self.keeper
+            .deviation_after(inst, &self.told, effects, monitor)
     }
 }

@@ -3,7 +3,7 @@
 use crate::keepers::Keeper;
 use khe_base::{MonitorId, NoMemory};
 use khe_instance::{Instance, Kind};
-use khe_told::{Told, Turn, Waits};
+use khe_told::{Effects, Told, Turn, Waits};
 use std::alloc::Global;
 
 /// Two keepers as one, which serves the kinds of both. It is well joined where both are and no kind is
@@ -23,6 +23,8 @@ impl<A: Keeper + Drop, B: Keeper + Drop> Keeper for TwoKeepers<A, B> {
     ghost IsWellJoined = { A.IsWellJoined × B.IsWellJoined × AreApart A.serves_kind B.serves_kind };
 
     ghost Keeps = { λ k p s. A.Keeps k.first p s × B.Keeps k.second p s × AreApart A.serves_kind B.serves_kind };
+
+    ghost Foresees = { λ k p ts. A.Foresees k.first p ts × B.Foresees k.second p ts };
 
     fn open(alloc: Global, inst: &Instance) -> Result<TwoKeepers<A, B>, NoMemory> {
         let first = A::open(alloc, inst)?;
@@ -44,5 +46,33 @@ impl<A: Keeper + Drop, B: Keeper + Drop> Keeper for TwoKeepers<A, B> {
             return self.first.deviation(inst, monitor);
         }
         self.second.deviation(inst, monitor)
+    }
+
+    fn foresees(&self, inst: &Instance, effects: &Effects<'_>) -> bool {
+        self.first.foresees(inst, effects) && self.second.foresees(inst, effects)
+    }
+
+    fn queue_affected<W: Waits>(
+        &self,
+        inst: &Instance,
+        told: &Told,
+        effects: &Effects<'_>,
+        waits: &mut W,
+    ) {
+        self.first.queue_affected(inst, told, effects, waits);
+        self.second.queue_affected(inst, told, effects, waits);
+    }
+
+    fn deviation_after(
+        &self,
+        inst: &Instance,
+        told: &Told,
+        effects: &Effects<'_>,
+        monitor: MonitorId,
+    ) -> u64 {
+        if self.first.serves(inst.monitor(monitor).kind) {
+            return self.first.deviation_after(inst, told, effects, monitor);
+        }
+        self.second.deviation_after(inst, told, effects, monitor)
     }
 }

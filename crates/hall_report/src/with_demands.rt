@@ -6,7 +6,7 @@ use crate::demands::Demands;
 use crate::shortages::shortage_of;
 use khe_base::{MonitorId, NoMemory, Seq, both};
 use khe_instance::{Instance, Kind};
-use khe_told::{Change, Family, Waits};
+use khe_told::{Change, Effects, Family, Waits};
 use std::alloc::Global;
 
 /// Families that keep the demands of the timetable beside them: each change is told to both. They
@@ -39,6 +39,8 @@ impl<F: Family + Drop> Family for WithDemands<F> {
     ghost IsOf = { λ x p. F.IsOf x.families p × (x.demands.told ≡ F.told x.families)
         × AreOf p x.demands.told x.demands.units x.demands.picks x.demands.matching x.demands.cells x.demands.tasks x.demands.times };
 
+    ghost Foresees = { λ x p ts. F.Foresees x.families p ts };
+
     fn open(alloc: Global, inst: &Instance) -> Result<WithDemands<F>, NoMemory> {
         let (families, demands) = both(F::open(alloc, inst), Demands::open(alloc, inst))?;
         Ok(WithDemands { families, demands })
@@ -55,6 +57,18 @@ impl<F: Family + Drop> Family for WithDemands<F> {
 
     fn deviation(&self, inst: &Instance, monitor: MonitorId) -> u64 {
         self.families.deviation(inst, monitor)
+    }
+
+    fn foresees(&self, inst: &Instance, effects: &Effects<'_>) -> bool {
+        self.families.foresees(inst, effects)
+    }
+
+    fn queue_affected<W: Waits>(&self, inst: &Instance, effects: &Effects<'_>, waits: &mut W) {
+        self.families.queue_affected(inst, effects, waits);
+    }
+
+    fn deviation_after(&self, inst: &Instance, effects: &Effects<'_>, monitor: MonitorId) -> u64 {
+        self.families.deviation_after(inst, effects, monitor)
     }
 }
 

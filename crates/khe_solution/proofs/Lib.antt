@@ -22,3 +22,4 @@ pub mod StartEdits
 pub mod StepLaws
 pub mod WantedLaws
 pub mod Works
+pub mod EffectLaws

@@ -11,3 +11,4 @@ pub mod Resting
 pub mod Steps
 pub mod TaskRows
 pub mod Timetables
+pub mod Effects

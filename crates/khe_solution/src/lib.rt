@@ -6,6 +6,7 @@
 mod bits;
 mod checks;
 mod edits;
+mod effects;
 mod laws;
 mod lists;
 mod lives;

@@ -1,11 +1,12 @@
 //! A timetable that is edited, and what is asked of it.
 
-ghost use Rattle.std.specs.Prelude.{◌≡◌, ◌≤◌, ◌<◌, ◌+◌, ◌*◌, ◌++◌, ◌^◌, ℕ, true, length, vec_capacity, Option, Some, None, Ok, Err, IfOk, OnOk, OnErr};
+ghost use Rattle.std.specs.Prelude.{◌≡◌, ◌≤◌, ◌<◌, ◌+◌, ◌*◌, ◌++◌, ◌^◌, ℕ, true, length, vec_capacity, Option, Some, None, Ok, Err, IfOk, IfSome, OnOk, OnErr};
 ghost use Rattle.std.specs.Option.{option_map};
 ghost use Rattle.khe_instance.specs.States.{IsValid};
 ghost use Rattle.khe_told.specs.Lists.{meet_in, meets_in, tasks_in};
 ghost use Rattle.khe_told.specs.Slots.{slot_at, is_live};
 ghost use Rattle.khe_told.specs.Changes.{after_all, inverses};
+ghost use Rattle.khe_told.specs.Effects.{AreTurns, turned_all};
 ghost use Rattle.khe_told.specs.Fits.{AllFit, AreTold};
 ghost use Rattle.khe_told.specs.Watchers.{watcher_counts};
 ghost use Rattle.khe_solution.specs.LiveBits.{IsNextMeet};
@@ -21,13 +22,14 @@ ghost use Rattle.khe_solution.specs.Resting.{FitsIn, timetable_of};
 
 use crate::checks::check;
 use crate::edits::{back_of, list_edit, list_undo, made};
+use crate::effects::effects_of;
 use crate::notes::{note_all, note_back};
 use crate::reads::resource_at;
 use crate::room::room_for;
 use crate::slots::Slots;
 use khe_base::{MeetId, NoMemory, ResourceId, TaskId};
 use khe_instance::{Instance, Meet, Plain};
-use khe_told::{Back, Change, Edit, Refusal, Steps, Watcher};
+use khe_told::{Back, Change, Edit, Effects, Refusal, Steps, Watcher};
 use std::alloc::Global;
 use std::marker::Model;
 use std::sync::ledger::Ledger;
@@ -202,6 +204,17 @@ impl<'i> Solution<'i> {
         self.inst.facts();
         let made = made(self.inst, &self.slots, *edit);
         list_edit(list, self.slots.told(), *edit, made);
+    }
+
+    /// What an edit that is not refused would make of the slots, where that is said of one or two of them: not of a
+    /// Split, a Merge and an exchange of the resources of two tasks of one meet. It takes constant time.
+    pub fn effects(&self, edit: &Edit) -> Option<Effects<'_>>
+        requires ours { is_of_meets edit.now ≡ true }
+        requires accepted { refusal self.now.parts self.now.slots edit.now ≡ None }
+        ensures turns { IfSome result (λ ts. AreTurns self.now.parts self.now.slots ts) }
+        ensures leads { IfSome result (λ ts. turned_all self.now.slots ts ≡ edited self.now.slots edit.now) }
+    {
+        effects_of(self.inst, self.slots.told(), edit)
     }
 
     /// The record that leads back from an edit that is not refused. It takes constant time.

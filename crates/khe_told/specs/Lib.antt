@@ -11,3 +11,4 @@ pub mod Valid
 pub mod Watchers
 pub mod Waits
 pub mod Turns
+pub mod Effects

@@ -5,6 +5,7 @@
 
 mod changes;
 mod edits;
+mod effects;
 mod families;
 mod filling;
 mod laws;
@@ -21,6 +22,7 @@ mod watchers;
 
 pub use changes::Change;
 pub use edits::{Back, Edit};
+pub use effects::{Effect, Effects, Regiven};
 pub use families::Family;
 pub use naming::Places;
 pub use refusals::Refusal;

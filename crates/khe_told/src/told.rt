@@ -3,6 +3,7 @@
 ghost use Rattle.std.specs.Prelude.{◌≡◌, ◌<◌, ◌≤◌, length, slice_get, slice_set, IfOk, MatchOption, Some};
 ghost use Rattle.khe_instance.specs.States.{IsTold};
 ghost use Rattle.khe_told.specs.Slots.{emptied, length_of, no_meets, no_slot, slot_at};
+ghost use Rattle.khe_told.specs.Effects.{effect_on, given_with};
 ghost use Rattle.khe_told.specs.Turns.{turn_to};
 ghost use Rattle.khe_told.specs.Naming.{AreSameBut};
 ghost use Rattle.khe_told.specs.Lists.{meet_in, meets_in, tasks_in};
@@ -11,6 +12,7 @@ ghost use Rattle.khe_told.specs.Fits.{AreTold, Fits};
 ghost use Rattle.khe_told.specs.Stored.{IsRowOf};
 
 use crate::changes::Change;
+use crate::effects::{Effect, Regiven};
 use crate::filling::{put_all, refill};
 use crate::naming::Places;
 use crate::opening::{no_tasks, rows_of};
@@ -176,6 +178,36 @@ impl Told {
             given_after,
             places,
             gives_other: differ(given_before, given_after, places),
+        }
+    }
+
+    /// What an edit would make of a meet slot: a slot with this meet, of which each place is given this, but for one
+    /// that may be given something else.
+    pub fn effect<'a>(
+        &'a self,
+        meet: MeetId,
+        after: Option<Span>,
+        given: &'a [Option<ResourceId>],
+        regiven: Option<Regiven>,
+    ) -> Effect<'a>
+        requires { meet.0 < length self.now }
+        ensures effect { result ≡ effect_on (slot_at self.now meet.0) after (given_with given.now regiven) }
+        ensures number { result.before.meet ≡ meet }
+    {
+        let Some(row) = self.row(meet) else {
+            unreachable!()
+        };
+        let before = row.span;
+        Effect {
+            meet,
+            event: row.event,
+            before,
+            after,
+            given_before: self.given(meet),
+            given_after: given,
+            regiven,
+            moves: is_moved(before, after),
+            resizes: is_resized(before, after),
         }
     }
 

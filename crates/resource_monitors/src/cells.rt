@@ -22,7 +22,7 @@ use crate::tables::CellTable;
 use family_keepers::Keeper;
 use khe_base::{MonitorId, NoMemory, Seq};
 use khe_instance::{Instance, Kind};
-use khe_told::{Told, Turn, Waits};
+use khe_told::{Effects, Told, Turn, Waits};
 use std::alloc::Global;
 use std::marker::PhantomData;
 
@@ -107,6 +107,8 @@ impl<K: CellKinds> Keeper for Cells<K> {
 
     ghost Keeps = { λ f p s. AreKept K.serves_kind p s f.table f.sets f.lists.items };
 
+    ghost Foresees = { λ f p ts. ⊥ };
+
     fn open(alloc: Global, inst: &Instance) -> Result<Cells<K>, NoMemory> {
         inst.facts();
         let lists = lists_of::<K>(alloc, inst)?;
@@ -133,5 +135,36 @@ impl<K: CellKinds> Keeper for Cells<K> {
         inst.facts();
         let of = inst.monitor(monitor);
         value(inst, &self.sets, &self.table, of)
+    }
+
+    fn foresees(&self, inst: &Instance, effects: &Effects<'_>) -> bool {
+        let _ = inst;
+        let _ = effects;
+        false
+    }
+
+    fn queue_affected<W: Waits>(
+        &self,
+        inst: &Instance,
+        told: &Told,
+        effects: &Effects<'_>,
+        waits: &mut W,
+    ) {
+        let _ = inst;
+        let _ = told;
+        let _ = effects;
+        let _ = waits;
+    }
+
+    fn deviation_after(
+        &self,
+        inst: &Instance,
+        told: &Told,
+        effects: &Effects<'_>,
+        monitor: MonitorId,
+    ) -> u64 {
+        let _ = told;
+        let _ = effects;
+        self.deviation(inst, monitor)
     }
 }

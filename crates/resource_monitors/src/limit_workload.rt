@@ -8,7 +8,7 @@ use crate::posts::Post;
 use family_keepers::{Keeper, Keeping};
 use khe_base::{MonitorId, NoMemory, Seq};
 use khe_instance::{Instance, Kind};
-use khe_told::{Told, Turn, Waits};
+use khe_told::{Effects, Told, Turn, Waits};
 use std::alloc::Global;
 
 /// The family of Limit Workload: how far the workload of a resource lies outside the bounds.
@@ -34,6 +34,8 @@ impl Keeper for Workloads {
 
     ghost Keeps = { λ f p s. AreKept p s f.loads.items f.lists.items };
 
+    ghost Foresees = { λ f p ts. ⊥ };
+
     fn open(alloc: Global, inst: &Instance) -> Result<Workloads, NoMemory> {
         let lists = lists_of(alloc, inst)?;
         let loads = no_loads(alloc, inst.resources())?;
@@ -57,5 +59,36 @@ impl Keeper for Workloads {
         inst.facts();
         let of = inst.monitor(monitor);
         value(inst, self.loads.as_slice(), of)
+    }
+
+    fn foresees(&self, inst: &Instance, effects: &Effects<'_>) -> bool {
+        let _ = inst;
+        let _ = effects;
+        false
+    }
+
+    fn queue_affected<W: Waits>(
+        &self,
+        inst: &Instance,
+        told: &Told,
+        effects: &Effects<'_>,
+        waits: &mut W,
+    ) {
+        let _ = inst;
+        let _ = told;
+        let _ = effects;
+        let _ = waits;
+    }
+
+    fn deviation_after(
+        &self,
+        inst: &Instance,
+        told: &Told,
+        effects: &Effects<'_>,
+        monitor: MonitorId,
+    ) -> u64 {
+        let _ = told;
+        let _ = effects;
+        self.deviation(inst, monitor)
     }
 }

@@ -14,7 +14,7 @@ use event_monitors::Post;
 use family_keepers::{Keeper, Keeping};
 use khe_base::{EventId, MonitorId, NoMemory, Seq, beside};
 use khe_instance::{EventInfo, Instance, Kind};
-use khe_told::{Told, Turn, Waits};
+use khe_told::{Effects, Told, Turn, Waits};
 use std::alloc::Global;
 
 /// The family of Order Events: a monitor's deviation is how far the times from the end of its first
@@ -47,6 +47,8 @@ impl Keeper for OrderEdges {
     ghost IsWellJoined = { Unit {0} };
 
     ghost Keeps = { λ f p s. ArePosts p is_order f.posts × AreListed p f.posts f.lists × AreEdges p f.lists s f.edges.items × AreShort s };
+
+    ghost Foresees = { λ f p ts. ⊥ };
 
     fn open(alloc: Global, inst: &Instance) -> Result<OrderEdges, NoMemory> {
         let posts = posts_of(alloc, inst)?;
@@ -83,6 +85,37 @@ impl Keeper for OrderEdges {
     fn deviation(&self, inst: &Instance, monitor: MonitorId) -> u64 {
         inst.facts();
         value(inst, self.edges.as_slice(), inst.monitor(monitor))
+    }
+
+    fn foresees(&self, inst: &Instance, effects: &Effects<'_>) -> bool {
+        let _ = inst;
+        let _ = effects;
+        false
+    }
+
+    fn queue_affected<W: Waits>(
+        &self,
+        inst: &Instance,
+        told: &Told,
+        effects: &Effects<'_>,
+        waits: &mut W,
+    ) {
+        let _ = inst;
+        let _ = told;
+        let _ = effects;
+        let _ = waits;
+    }
+
+    fn deviation_after(
+        &self,
+        inst: &Instance,
+        told: &Told,
+        effects: &Effects<'_>,
+        monitor: MonitorId,
+    ) -> u64 {
+        let _ = told;
+        let _ = effects;
+        self.deviation(inst, monitor)
     }
 }
 

@@ -7,7 +7,7 @@ use event_monitors::{
 use family_keepers::{Keeper, Keeping, TwoKeepers};
 use khe_base::{MonitorId, NoMemory};
 use khe_instance::{Instance, Kind};
-use khe_told::{Family, Told, Turn, Waits};
+use khe_told::{Effects, Family, Told, Turn, Waits};
 use resource_monitors::ResourceKeepers;
 use set_monitors::{Holders, Links, OrderEdges, Starts};
 use std::alloc::Global;
@@ -48,6 +48,8 @@ impl Keeper for SixteenKeepers {
 
     ghost Keeps = { λ k p s. ⟦<AllKeepers as Keeper>⟧.Keeps k.all p s };
 
+    ghost Foresees = { λ k p ts. ⟦<AllKeepers as Keeper>⟧.Foresees k.all p ts };
+
     fn open(alloc: Global, inst: &Instance) -> Result<SixteenKeepers, NoMemory> {
         let all = AllKeepers::open(alloc, inst)?;
         Ok(SixteenKeepers { all })
@@ -63,6 +65,30 @@ impl Keeper for SixteenKeepers {
 
     fn deviation(&self, inst: &Instance, monitor: MonitorId) -> u64 {
         self.all.deviation(inst, monitor)
+    }
+
+    fn foresees(&self, inst: &Instance, effects: &Effects<'_>) -> bool {
+        self.all.foresees(inst, effects)
+    }
+
+    fn queue_affected<W: Waits>(
+        &self,
+        inst: &Instance,
+        told: &Told,
+        effects: &Effects<'_>,
+        waits: &mut W,
+    ) {
+        self.all.queue_affected(inst, told, effects, waits);
+    }
+
+    fn deviation_after(
+        &self,
+        inst: &Instance,
+        told: &Told,
+        effects: &Effects<'_>,
+        monitor: MonitorId,
+    ) -> u64 {
+        self.all.deviation_after(inst, told, effects, monitor)
     }
 }
 
