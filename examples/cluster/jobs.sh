@@ -2,7 +2,7 @@
 # Jobs of `khe solve`, each run by khe-talk: for GNU parallel, Slurm, or whatever else runs a command for each number.
 #
 #     jobs.sh run ARCHIVE SOLUTION DEPTH BUDGET FOLDER [JOB..]    runs jobs, and leaves the totals of each in FOLDER
-#     jobs.sh least ARCHIVE SOLUTION DEPTH BUDGET FOLDER JOBS     writes what `khe solve` writes with so many jobs
+#     jobs.sh least ARCHIVE SOLUTION DEPTH BUDGET FOLDER JOBS     writes what `khe solve` writes with JOBS jobs
 #
 # Jobs are numbered from 0. In an array of Slurm the job is the number of the task, where none is named. The least of
 # them is run once more, for its archive. The program is KHE_TALK, or else khe-talk on the path. Lines on standard

@@ -79,7 +79,7 @@ def least_of(results: Sequence[Result]) -> Result:
 
 
 def solved(client: Any, archive: bytes, task: Task, jobs: int) -> Result:
-    """The least result of so many jobs, run by a cluster."""
+    """The least result of the given number of jobs, run by a cluster."""
     send_package(client)
     kept = client.scatter(archive, broadcast=True)
     pieces = min(jobs, PIECES * max(1, sum(client.nthreads().values())))

@@ -1,4 +1,4 @@
-"""Prints an archive of so many times in five days, one event that lasts as long, and a monitor of each kind at a
+"""Prints an archive of the given number of times in five days, one event that lasts as long, and a monitor of each kind at a
 resource.
 
     archive.py TIMES

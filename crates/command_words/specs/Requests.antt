@@ -5,6 +5,7 @@ use Rattle.command_words.specs.Words.{Asked, evaluating, scripting, checking, re
 use Rattle.command_words.specs.declared.words.Request.{Request}
 use Rattle.command_words.specs.declared.words.Request.TheVariants.{Evaluate, Script, Check, Repair, Solve, Match, Make, Run, Construct}
 
+-- what a request asks for. The number of workers is left out, since no text depends on it
 abbrev pub asked_of : Request → Asked
 asked_of (Evaluate archive all workers) = evaluating archive.now all
 asked_of (Script archive solution script tied) = scripting archive.now solution script.now tied

@@ -129,7 +129,7 @@ keeps_widest d ds l e h =
       each = λ j x k. (h j x k, (let z = below j x k in omega (arith, z, e)));
     }
 
--- what the slot with a number has of a duration that is cut into so many parts
+-- what the slot with a number has of a duration that is cut into n parts
 abbrev pub share : ℕ → ℕ → ℕ → ℕ
 share d n k = cond (nat_lt k n) (part d n k) 0
 
@@ -146,7 +146,7 @@ one_in k r = elim (cases_lt k r) [
   | inr l ↦ let e : cond (nat_lt k r) 1 0 ≡ 0 = ap {B = ℕ} (λ c. cond c 1 0) (le-ltb k r l) in omega (arith, l, e)
 ]
 
--- the first so many shares
+-- the first n shares
 abbrev shares : ℕ → ℕ → ℕ → ℕ
 shares d n k = sum_by (share d n) (map (λ j. j) (range_with_len 0 k))
 

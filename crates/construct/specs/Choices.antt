@@ -12,7 +12,7 @@ use Rattle.khe_solution.specs.Refusing.{is_of_meets, refusal}
 use Rattle.khe_told.specs.declared.edits.Edit.{Edit}
 use Rattle.khe_told.specs.declared.edits.Edit.TheVariants.{Assign, Give}
 
--- the totals of a state, and those that an edit leaves
+-- the totals of a state, and the totals that an edit leaves
 unfoldable pub totals_at : Parts → State → Totals
 totals_at p s = totals p s
 
@@ -41,7 +41,7 @@ least p s (e ∷ es) = Some (lesser p s e (least p s es))
 unfoldable pub if_lower : Parts → State → Edit → Option Edit
 if_lower p s e = if are_lower (totals_after p s e) (totals_at p s) then Some e else None
 
--- of some edits, the one that is accepted and leaves the least totals, if these are lower than those that there are
+-- of some edits, the one that is accepted and leaves the least totals, if these are lower than the present ones
 unfoldable pub lowering : Parts → State → List Edit → Option Edit
 lowering p s es = option_and_then (if_lower p s) (least p s (filter (is_accepted p s) es))
 

@@ -5,7 +5,7 @@ use Rattle.khe_engine.specs.States.{State}
 use Rattle.khe_instance.specs.declared.parts.Parts.{Parts}
 use Rattle.khe_told.specs.declared.edits.Edit.{Edit}
 
--- of some edits, this one is the first of those that leave the least totals: all that are accepted before it leave
+-- of some edits, this one is the first that leaves the least totals: all that are accepted before it leave
 -- higher ones, and none that is accepted after it leaves lower ones
 pub record IsFirstLeast (p : Parts) (s : State) (es : List Edit) (e : Edit) : Type 0 where
   pub accepted : is_accepted p s e ≡ true
@@ -15,7 +15,7 @@ pub record IsFirstLeast (p : Parts) (s : State) (es : List Edit) (e : Edit) : Ty
   pub higher : All (λ f. is_accepted p s f ≡ true → are_lower (totals_after p s e) (totals_after p s f) ≡ true) earlier
   pub no_lower : All (λ f. is_accepted p s f ≡ true → are_lower (totals_after p s f) (totals_after p s e) ≡ false) later
 
--- and the totals that it leaves are lower than those that there are
+-- and the totals that it leaves are lower than the present ones
 pub record IsTaken (p : Parts) (s : State) (es : List Edit) (e : Edit) : Type 0 where
   pub least : IsFirstLeast p s es e
   pub lower : are_lower (totals_after p s e) (totals_at p s) ≡ true

@@ -1,4 +1,4 @@
--- A matching with so many left out has a set whose excess is that, or can be made larger: the
+-- A matching with n left out has a set whose excess is that, or can be made larger: the
 -- numbers of demands and supplies, over plain functions.
 use Rattle.std.proofs.Common.{ℕ, suc, ◌+◌, ◌<◌, ◌≤◌, ◌≡◌, Bool, true, false, ◌&&◌, not, eqb, refl, sym, ◌∙◌, arith, inl}
 use Rattle.std.proofs.Common.{inr, Option, Some, None}

@@ -167,7 +167,7 @@ impl Table {
         len + 1
     }
 
-    /// Looks at 64 supplies: at those whose bits are set in a word.
+    /// Looks at the supplies, of 64, whose bits are set in a word.
     fn meet_word(
         &self,
         order: &mut Order,

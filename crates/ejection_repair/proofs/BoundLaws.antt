@@ -25,7 +25,7 @@ use Rattle.ejection_repair.proofs.AmongLaws.{among_map, filter_among, place_of, 
 use Rattle.ejection_repair.proofs.AskLaws.{costs_long}
 use Rattle.ejection_repair.proofs.KeptLaws.{Leads, tries_good}
 
--- of which moves lead to such states, with lists of at most so many moves, and so many monitors
+-- states that moves lead to such states from, with a bound on the moves of a list and one on the monitors
 pub record AreBounded (p : Parts) (Good : State → Type 0) (d r : ℕ) : Type 0 where
   pub monitors : length p.monitors ≤ d
   pub lists : (s : State) (m : ℕ) → Good s → length (moves p s.slots m) ≤ r

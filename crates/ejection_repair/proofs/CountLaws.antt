@@ -78,7 +78,7 @@ items_most : (p : Parts) (s : List Slot) (r : Rule) (point : Point) (part : Part
 unfolding items_from
 items_most p s r point part = picked_most (is_item p s r point part) (item_slots p part)
 
--- a part whose meets or tasks have at most so many choices each
+-- a part whose meets or tasks have at most n choices each
 part_most : (p : Parts) (s : List Slot) (r : Rule) (point : Point) (part : Part) (c : ℕ)
     → ((n : ℕ) → choices p s part n ≤ c) → length (part_from p s r point part 0) ≤ item_slots p part * c
 unfolding part_from

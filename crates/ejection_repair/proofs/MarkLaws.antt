@@ -6,7 +6,7 @@ use Rattle.khe_engine.specs.States.{State}
 use Rattle.khe_engine.specs.Worlds.{World, Saved, closed, fresh, grown, kept}
 use Rattle.ejection_repair.specs.Kept.{IsBack, IsInside, room, states}
 
--- one mark more has so many records more
+-- one mark more has its own records more
 kept_more : (x : Saved) (xs : List Saved) → kept (x ∷ xs) ≡ x.records + kept xs
 kept_more x xs = sum_by-cons (λ (x : Saved). x.records) x xs
 

@@ -34,7 +34,7 @@ pub passed_all : {A : Type 0} (xs ys : List A) (count v : ℕ) → count ≡ min
     → ys ≡ drop count xs → ys ≡ [] → length xs ≡ count
 passed_all xs ys count v e l d n = let h = drop_done xs ys count d n in omega arith
 
--- a walk round a list that begins after so many of its moves
+-- a walk round a list that begins after n of its moves
 pub begun_round : (p : Parts) (s : List Slot) (c f : Cursor) (n v : ℕ) (xs : List Edit) → ahead p s f ≡ xs
     → ahead p s c ≡ drop n xs → n ≡ v % length xs
     → (r : MoveRound) → r ≡ record { cursor = c; first = f; before = n; wrapped = false }
@@ -72,7 +72,7 @@ pub rotated_nothing : {A : Type 0} (v : ℕ) (xs : List A) → length xs ≡ 0 �
 unfolding rotated
 rotated_nothing v xs n = sym (nothing_round xs (v % length xs) n)
 
--- a walk round the defects that begins after so many of them
+-- a walk round the defects that begins after n of them
 pub defects_begun : (costs : List ℕ) (from n v : ℕ) (r : DefectRound)
     → r ≡ record { from = from; before = n; wrapped = false }
     → defects_from costs from ≡ drop n (defects_from costs 0)

@@ -20,7 +20,7 @@ pub record Try : Type 0 where
 abbrev pub try_at : ℕ → Chain → Try
 try_at gone c = record { state = c.state; gone = gone }
 
--- what is to be looked at in a state by further lengths, after those that were gone through
+-- what is to be looked at in a state by further lengths, after the lengths that were gone through
 unfoldable pub tries_from : Parts → State → ℕ → ℕ → ℕ → List Try
 tries_from p s v gone zero = []
 tries_from p s v gone (suc n) = map (try_at gone) (chains p s v (gone + 1)) ++ tries_from p s v (gone + 1) n

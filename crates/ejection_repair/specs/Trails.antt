@@ -15,7 +15,7 @@ is_same (Task a) (Task b) = (a.meet.0 == b.meet.0) && (a.place == b.place)
 is_same (Meet a) (Task b) = false
 is_same (Task a) (Meet b) = false
 
--- whether a meet or task is among those that were moved
+-- whether a meet or task is among the ones that were moved
 unfoldable pub was_moved : List Moved → Moved → Bool
 was_moved moved x = list_any (is_same x) moved
 

@@ -42,7 +42,7 @@ use Rattle.monitor_graph.specs.Edits as groups
 use Rattle.monitor_graph.specs.Groups.{AreGroups, Groups, children_at, free_number, is_among, occurs, place_of, without}
 use Rattle.monitor_graph.specs.Opened.{numbered_groups}
 
--- children of a group: each is one of so many monitors, and stands there once
+-- children of a group: each is one of n monitors, and stands there once
 abbrev AreChildren : ℕ → List MonitorId → Type 0
 AreChildren n xs = ((m : ℕ) → is_among m xs ≡ true → m < n) × ((m : ℕ) → occurs m xs ≤ 1)
 

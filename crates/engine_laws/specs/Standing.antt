@@ -33,8 +33,8 @@ abbrev pub SavedStand : Parts → List Saved → Type 0
 SavedStand p [] = Unit {0}
 SavedStand p (x ∷ xs) = Stands p x.state × SavedStand p xs
 
--- where a state and those saved at the marks stand, so do those that are saved after an accepted edit, and after a mark
--- is opened and closed
+-- where a state and the states saved at the marks stand, so do the states that are saved after an accepted
+-- edit, and after a mark is opened and closed
 abbrev pub MarksKeepStanding : Type 0
 MarksKeepStanding = (p : Parts) (s : State) (xs : List Saved) → Stands p s → SavedStand p xs
     → ((cs : List Change) → SavedStand p (grown cs xs)) × SavedStand p (fresh s ∷ xs) × SavedStand p (closed xs)

@@ -28,7 +28,7 @@ same_rest a b xs ys e = cc
 no_first : {A : Type 0} (a : A) (xs : List A) → [] ≡ a ∷ xs → ⊥
 no_first a xs e = cc
 
--- so many tasks of one meet, before other tasks
+-- n tasks of one meet, before other tasks
 same_given : (m : Meet) (k : ℕ) (gs hs : List (Option ResourceId)) (xs ys : List Task) → length gs ≡ length hs
     → tasks_with m k gs ++ xs ≡ tasks_with m k hs ++ ys → (gs ≡ hs) × (xs ≡ ys)
 same_given m k [] [] xs ys l e = (refl, e)

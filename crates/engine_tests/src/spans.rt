@@ -51,7 +51,7 @@ fn mask_of(alloc: Global, from: u32, to: u32) -> Result<Mask, NoMemory>
     Mask::new(alloc, &set)
 }
 
-/// Whether so many times of a mask are busy, and so many idle.
+/// Whether the given numbers of times of a mask are busy and idle.
 fn counts(timetable: &Timetable, mask: &Mask, busy: u32, idle: u32) -> bool
     requires rows { IsOneRow timetable.now 130 }
     requires size { length mask.now ≡ 130 }

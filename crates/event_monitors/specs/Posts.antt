@@ -13,7 +13,7 @@ use Rattle.event_monitors.specs.declared.posts.Post.{Post}
 abbrev pub names : Parts → ℕ → Monitor → Bool
 names p e m = option_map_or (λ c. names_event p c.rule m.point e) (slice_get p.constraints m.constraint) false
 
--- whether the post at a place does, and the places of those that do
+-- whether the post at a place does, and the places of the posts that do
 abbrev pub names_at : Parts → List Post → ℕ → ℕ → Bool
 names_at p posts e k = option_map_or (λ a. names p e a.monitor) (slice_get posts k) false
 

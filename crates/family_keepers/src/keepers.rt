@@ -32,7 +32,8 @@ pub trait Keeper {
     /// That it can tell the deviations after effects without a change.
     ghost Foresees: { Self → Parts → List SlotTurn → Type 0 };
 
-    /// A keeper while there are no meets. It sizes all that it will need; no other call takes memory.
+    /// A keeper while there are no meets. It takes all the memory that it will need; no other call takes
+    /// memory.
     fn open(alloc: Global, inst: &Instance) -> Result<Self, NoMemory>
         requires { IsWellJoined }
         ensures { IfOk result (λ k. Keeps k inst.now (no_meets inst.now)) };

@@ -17,10 +17,10 @@ use std::alloc::Global;
 
 /// The family of a keeper: what was told, in one place for all that the keeper is made of.
 ///
-/// The changes of an edit are told to a second state first, which is then taken over slot by slot: so the
-/// keeper follows each slot once, whatever the number of changes of it. The slot of one change alone is taken
-/// over at once; of several changes the ones that make a meet shorter come first. It looks at the places that
-/// the changes name, and at all places of the slot only where its meet changed.
+/// The changes of an edit are told to a second state first, which is then copied slot by slot: so the keeper
+/// follows each slot once, whatever the number of changes of it. The slot of one change alone is copied at
+/// once; of several changes the ones that make a meet shorter come first. It looks at the places that the
+/// changes name, and at all places of the slot only where its meet changed.
 pub struct Keeping<K> {
     /// What the keeper follows.
     told: Told,
@@ -73,7 +73,7 @@ fn take<K: Keeper, W: Waits>(
     told.follow(ahead, meet, places);
 }
 
-/// The last two meets whose slots were taken over: of most edits, all.
+/// The last two meets whose slots were copied: of most edits, all.
 #[derive(Clone, Copy)]
 struct Taken {
     last: Option<MeetId>,
@@ -98,7 +98,7 @@ impl Taken {
         self.last == Some(meet) || self.earlier == Some(meet)
     }
 
-    /// The two, where this meet is taken over.
+    /// The two, once this meet is copied.
     fn with(self, meet: MeetId) -> Taken
         ensures { result ≡ record { last = Some meet; earlier = self.last } }
     {
@@ -116,7 +116,7 @@ struct Altered {
     places: Places,
 }
 
-/// Takes a slot over as `take` does, where it is none of the last two: these are alike in both states.
+/// Copies a slot as `take` does, unless it is one of the last two: these are the same in both states.
 fn take_new<K: Keeper, W: Waits>(
     inst: &Instance,
     keeper: &mut K,

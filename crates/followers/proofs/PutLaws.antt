@@ -215,7 +215,7 @@ room_less m n k a b h i l = room_left m n a b (λ e. let f = h e in omega (arith
 pub after_sum : (m n k : ℕ) (a b c : World) → IsAfter m a b → IsAfter n b c → m + n ≤ k → IsAfter k a c
 after_sum m n k a b c x y l = after_more (m + n) k a c (after_both m n a b c x y) l
 
--- one edit more of so many
+-- one edit more, of n
 pub after_one : (k left : ℕ) (a b c : World) → IsAfter (k - left) a b → IsAfter 1 b c → 0 < left → left ≤ k
     → IsAfter (k - (left - 1)) a c
 after_one k left a b c x y l m = after_sum (k - left) 1 (k - (left - 1)) a b c x y (omega (arith, l, m))

@@ -10,8 +10,8 @@ set_at sets entries i = slice_index_or sets (slice_index_or entries i 0) []
 abbrev pub has_both : List Bool → List Bool → ℕ → Bool
 has_both one other n = has_member one n && has_member other n
 
--- each entry names a set, all sets have the same size, and no entry shares a set that is not one of
--- the first, so many
+-- each entry names a set, all sets have the same size, and no entry shares a set that is not one of the first n
+-- of them
 pub record AreSets (shared size : ℕ) (sets : List (List Bool)) (entries : List ℕ) : Type 0 where
   pub sized : All (λ set. length set ≡ size) sets
   pub given : (i : ℕ) → i < length entries → slice_index_or entries i 0 < length sets

@@ -1,5 +1,5 @@
--- How a run of `khe` ends: by the outcome that the definitions give, by a device that refused a call, or where
--- memory is refused.
+-- How a run of `khe` ends: by the outcome that the definitions give, by a device that refused a call, or
+-- because memory ran out.
 use Rattle.std.specs.Prelude.{ℕ, ◌≡◌, ◌⊎◌, Bool, IsTrue, if◌then◌else◌, Option, IfSome, IsSomeAnd, Result, Ok, Err}
 use Rattle.std.specs.Prelude.{List, []}
 use Rattle.std.specs.Prelude.{encode_utf8_all}

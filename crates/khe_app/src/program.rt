@@ -135,7 +135,7 @@ pub fn khe<R: Threads + Sync, S: Shelf, K: Sink, G: Gate>(
     // Before status 6 the sink took nothing, or some first bytes of the text.
     ensures no_memory { result.0 ≡ 6 → (K.taken out.new ≡ K.taken out.old) ⊎ CutOff (map string_bytes words.now) (S.holdings shelf.old) (K.taken out.old) (K.taken out.new) }
 
-    // Where no device is to blame, the run ends as the definitions say, or where memory is refused.
+    // Where no device is to blame, the run ends as the definitions say, or because memory ran out.
     ensures complete { (IsTrue (S.is_sound shelf.old) ⊎ (Rose (S.faults shelf.old) (S.faults shelf.new) → ⊥)) → (Rose (K.faults out.old) (K.faults out.new) → ⊥)
         → (result.0 ≡ 6) ⊎ EndedBy (map string_bytes words.now) (S.holdings shelf.old) (K.taken out.old) (K.taken out.new) result.0 }
 

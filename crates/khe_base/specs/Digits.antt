@@ -13,7 +13,7 @@ abbrev pub value_after : ℕ → List ℕ → ℕ
 value_after before [] = before
 value_after before (digit ∷ more) = value_after (before * 10 + (digit - 48)) more
 
--- the number that 1 to so many digits write, where it is below 2^32
+-- the number that 1 to n digits write, where it is below 2^32
 unfoldable pub number_of : ℕ → List ℕ → Option ℕ
 number_of most word =
     if list_all is_digit word && nat_lt 0 (length word) && nat_le (length word) most && nat_lt (value_after 0 word)

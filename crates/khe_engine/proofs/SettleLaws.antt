@@ -143,7 +143,7 @@ watchers_few p s cs old new idle long h amount =
     watcher i (inl w) = absurd (both_ways (waits_in old i) (idle.none i) w)
     watcher i (inr t) = t
 
--- a list of those that wait is opened
+-- a list of the monitors that wait is opened
 pub opened_idle : {E : Type 0} (p : Parts) (r : Result Waiters E) (n : ℕ) → n ≡ length p.monitors
     → IfOk r (λ w. w.flags ≡ replicate n false) → IfOk r (λ w. w.amount ≡ 0) → IfOk r (IsIdle p)
 opened_idle p (Ok w) n many flags amount = record {

@@ -20,7 +20,7 @@ use Rattle.khe_engine.specs.Values.{totals}
 use Rattle.khe_engine.proofs.SettleLaws.{another_waits, measured_one}
 use Rattle.khe_engine.proofs.ValueLaws.{values_all}
 
--- so many were measured: those that wait have the graph's deviation still
+-- n were measured: the monitors that wait have the graph's deviation still
 pub record AreUnderWay (p : Parts) (waits : ℕ → Bool) (s : List Slot) (b : Board) (t : Totals) : Type 0 where
   pub ds : List ℕ
   pub long : length ds ≡ length p.monitors

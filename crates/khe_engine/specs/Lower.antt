@@ -19,7 +19,7 @@ often xs k = count_by (λ (m : MonitorId). nat_eq m.0 k) xs
 abbrev pub kept : Board → ℕ → ℕ
 kept b k = slice_index (deviations_of b) k
 
--- of a list of those that wait, those that deviate now were measured, and no other
+-- of a list of queued monitors, the ones that deviate now were measured, and no other
 pub record AreBegun (p : Parts) (s : List Slot) (b : Board) (done : List MonitorId) (t : Totals) : Type 0 where
   pub ds : List ℕ
   pub long : length ds ≡ length p.monitors
@@ -28,7 +28,7 @@ pub record AreBegun (p : Parts) (s : List Slot) (b : Board) (done : List Monitor
   pub right : (k : ℕ) (m : Monitor) → slice_get p.monitors k ≡ Some m → often done k ≢ 0 → kept b k ≢ 0
       → slice_get ds k ≡ Some (deviation_in p s m)
 
--- of those that wait, those that deviate now were measured, and of those that do not wait all
+-- of the queued monitors the ones that deviate now were measured, and of the others all
 pub record AreOpen (p : Parts) (waits : ℕ → Bool) (s : List Slot) (b : Board) (t : Totals) : Type 0 where
   pub ds : List ℕ
   pub long : length ds ≡ length p.monitors

@@ -25,17 +25,17 @@ pub record IsStateOf (p : Parts) (plain : Plain) (s : State) : Type 0 where
   pub tasks : tasks_in s.slots ≡ plain.tasks
   pub grouping : s.grouping ≡ grouping_in p plain
 
--- so many places have what they are given, and the others nothing yet
+-- n places have what they are given, and the others nothing yet
 abbrev pub given_to : ℕ → List (Option ResourceId) → List (Option ResourceId)
 given_to zero g = replicate (length g) None
 given_to (suc k) [] = []
 given_to (suc k) (o ∷ g) = o ∷ given_to k g
 
--- a slot whose meet was told without its start, and so many of its places with what they are given
+-- a slot whose meet was told without its start, and n of its places with what they are given
 abbrev pub coming : ℕ → Slot → Slot
 coming k x = record x { span = option_map (λ (y : Span). record y { start = None }) x.span; given = given_to k x.given }
 
--- so many slots are told, and the others have no meets yet
+-- n slots are told, and the others have no meets yet
 abbrev pub told_to : ℕ → List Slot → List Slot
 told_to zero s = map emptied s
 told_to (suc k) [] = []

@@ -28,7 +28,7 @@ saved_of s [] = []
 saved_of s (bs ∷ rest) = record { state = undone_all s bs; trail = trail_of s bs; records = length bs } ∷ saved_of
     (undone_all s bs) rest
 
--- a record leads back from a state, with room for so many children at each group number
+-- a record leads back from a state, with room for n children at each group number
 abbrev pub LeadsBy : Bool → Parts → List ℕ → State → Back → Type 0
 LeadsBy true p seats s b = groups.CanUndo s.grouping b
     × (groups.inserts_child b ≡ true → HasSeat s.grouping.groups seats (groups.inserts_to b))

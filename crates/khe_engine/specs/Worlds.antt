@@ -70,7 +70,7 @@ kept xs = sum_by (λ (x : Saved). x.records) xs
 abbrev pub trail_cost : Parts → Saved → ℕ
 trail_cost p x = watcher_counts p x.state.slots x.trail
 
--- that of the innermost mark, and those of so many marks
+-- that of the innermost mark, and those of n marks
 abbrev pub last_cost : Parts → List Saved → ℕ
 last_cost p [] = 0
 last_cost p (x ∷ xs) = trail_cost p x

@@ -128,7 +128,7 @@ fn is_lower_measured<F: Family>(
     false
 }
 
-/// Turns the families by the changes of an accepted edit of meets and tasks, which are listed. Those whose
+/// Turns the families by the changes of an accepted edit of meets and tasks, which are listed. Monitors whose
 /// deviations may have changed are queued.
 fn turn_by<F: Family>(
     inst: &Instance,

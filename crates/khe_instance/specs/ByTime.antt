@@ -10,7 +10,7 @@ use Rattle.khe_instance.specs.declared.parts.Parts.{Parts}
 use Rattle.khe_instance.specs.declared.rules.Constraint.{Constraint}
 use Rattle.khe_instance.specs.declared.rules.Rule.{Rule}
 
--- whether a rule lists one of so many times from one on
+-- whether a rule lists one of the n times from one on
 unfoldable pub lists_between : Rule → ℕ → ℕ → Bool
 lists_between rule from count = list_any (lists_time rule) (range_with_len from count)
 
@@ -18,7 +18,7 @@ lists_between rule from count = list_any (lists_time rule) (range_with_len from 
 abbrev pub lists_in : Rule → ℕ → Bool
 lists_in rule word = lists_between rule (64 * word) 64
 
--- the first so many words in which it lists a time
+-- the first n words in which it lists a time
 abbrev pub words_in : ℕ → Rule → List ℕ
 words_in words rule = filter (lists_in rule) (range_with_len 0 words)
 

@@ -24,7 +24,7 @@ pub record IsAddedAt (test : ℕ → ℕ → Bool) (number : ℕ) (old new : Lis
   pub each : (a b : ℕ) → a < length old → b < length (slice_index_or old a []) → list_at new a b ≡ list_at old a b
       ++ (if test a b then number ∷ [] else [])
 
--- in each list of a table, of so many rows of these widths, are those of the first numbers that pass its test
+-- in each list of a table, of n rows of these widths, are those of the first numbers that pass its test
 pub record AreTabled (test : ℕ → ℕ → ℕ → Bool) (rows : ℕ) (width : ℕ → ℕ) (numbers : ℕ)
     (table : List (List (List ℕ))) : Type 0 where
   pub rows_are : length table ≡ rows

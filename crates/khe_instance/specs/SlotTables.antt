@@ -6,7 +6,7 @@ use Rattle.khe_instance.specs.declared.parts.EventInfo.{EventInfo}
 use Rattle.khe_instance.specs.declared.slots.SlotTable.{SlotTable}
 use Rattle.khe_instance.specs.declared.slots.TaskTable.{TaskTable}
 
--- how many tasks so many events have that come first
+-- how many tasks n events have that come first
 abbrev pub tasks_before : List EventInfo → ℕ → ℕ
 tasks_before events e = sum_by (λ x. x.duration * length x.places) (take e events)
 

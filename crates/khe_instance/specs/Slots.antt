@@ -17,7 +17,7 @@ HasSlot events e slot =
     (event : EventInfo) × (slice_get events e ≡ Some event) × (event.first_meet ≤ slot)
     × (slot < event.first_meet + event.duration)
 
--- the tasks of a meet slot with so many places
+-- the tasks of a meet slot with n places
 abbrev pub slot_tasks : ℕ → ℕ → List TaskId
 slot_tasks meet places = map (λ k. record { meet = record { 0 = meet }; place = k }) (range_with_len 0 places)
 

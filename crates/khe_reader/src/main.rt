@@ -26,8 +26,8 @@ fn words<R: Env + AllocGlobal>(rt: &R) -> io::Result<Vec<String>> {
     }
 }
 
-/// Runs the program on the files and the output of a system. Where the words cannot be taken where memory is
-/// refused the status is 6.
+/// Runs the program on the files and the output of a system. Where memory is refused while the words are taken,
+/// the status is 6.
 fn run<R>(rt: &R) -> Status
 where
     R: Env + Files + Print + AllocGlobal + Threads + Sync,

@@ -53,6 +53,7 @@ impl<F: Family> Model for SessionOn<F> {
 
     ghost Value = { Option SessionState };
 
+    // How the logic stores a value. It is written down because the check finds none for a value with an archive in it.
     ghost coded = { Prim.hlevel (codes, archive.the_row.coded) };
 
     ghost view = { λ s. state_in s.instance s.solution s.lines s.kept };

@@ -35,6 +35,7 @@ impl Model for Session {
 
     ghost Value = { Option SessionState };
 
+    // How the logic stores a value. It is written down because the check finds none for a value with an archive in it.
     ghost coded = { Prim.hlevel (codes, archive.the_row.coded) };
 
     ghost view = { λ s. s.on };

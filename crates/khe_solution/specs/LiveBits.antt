@@ -10,7 +10,7 @@ use Rattle.khe_told.specs.declared.changes.Change.TheVariants as change
 use Rattle.khe_solution.specs.Marks.{AreMarked}
 use Rattle.khe_solution.specs.declared.lives.LiveRows.{LiveRows}
 
--- there is a bit for each of so many slots and a mark for each word, and each word with a bit is marked
+-- there is a bit for each of n slots and a mark for each word, and each word with a bit is marked
 pub record AreLiveRows (slots : ℕ) (t : LiveRows) : Type 0 where
   pub marked : AreMarked t.words.items t.marks.items
   pub room : slots ≤ 64 * length t.words.items

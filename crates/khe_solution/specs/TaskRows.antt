@@ -27,7 +27,7 @@ abbrev pub row_of : Option ResourceId → ℕ
 row_of None = 0
 row_of (Some r) = r.0 % 256 + 1
 
--- where the bit of a task slot stands in a row, where a row has so many words
+-- where the bit of a task slot stands in a row, where a row has n words
 unfoldable pub spot_of : ℕ → ℕ → ℕ → ℕ
 spot_of stride row n = 64 * (row * stride) + n
 

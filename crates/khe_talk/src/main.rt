@@ -26,8 +26,8 @@ fn words<R: Env + AllocGlobal>(rt: &R) -> io::Result<Vec<String>> {
     }
 }
 
-/// Talks over the files, the input and the output of a system. Where the words or the room for what is read
-/// cannot be taken where memory is refused the status is 6.
+/// Talks over the files, the input and the output of a system. Where memory is refused for the words or for the
+/// room for what is read, the status is 6.
 fn run<R: Env + Files + Print + Input + AllocGlobal>(rt: &R) -> Status {
     let Ok(words) = words(rt) else {
         return Status(6);

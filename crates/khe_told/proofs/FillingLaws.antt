@@ -151,7 +151,7 @@ free_emptied [] j x at = absurd (let l = slice_get_within [] j x at in omega (ar
 free_emptied (y ∷ s) zero x at = sym (ap (λ (z : Slot). z.span) (same_Some (emptied y) x at))
 free_emptied (y ∷ s) (suc j) x at = free_emptied s j x at
 
--- the slots so far list so many of the meets and tasks, and those from the next meet on are free
+-- the slots so far list n of the meets and tasks, and those from the next meet on are free
 pub record IsAmid (p : Parts) (ms : List Meet) (ts : List Task) (s : List Slot) (i next : ℕ) : Type 0 where
   pub whose : map emptied s ≡ no_meets p
   pub bare : All IsBareIfFree s

@@ -64,7 +64,7 @@ given_elsewhere (c ∷ cs) s j k h =
     let parts = or_parts (gives_at j c) (list_any (gives_at j) cs) h in
     given_then c s j k parts.0 ∙ given_elsewhere cs (after s c) j k parts.1
 
--- all places but these are named by none of so many changes
+-- all places but these are named by none of n changes
 abbrev pub AreNamed : Places → List Change → ℕ → Type 0
 AreNamed places cs i = (j : ℕ) → is_named places j ≡ false → list_any (gives_at j) (take i cs) ≡ false
 
@@ -124,7 +124,7 @@ below_all {A} n xs ys l many h = same_lists xs ys all
         by (inl a) = h j a
         by (inr a) = slice_get_past xs j (omega (arith, a, l)) ∙ sym (slice_get_past ys j (omega (arith, a, l, many)))
 
--- of so many from one list and the rest from another more are from the one, where both are the same there
+-- of the first n from one list and the rest from another more are from the one, where both are the same there
 pub mixed : {A : Type 0} (vs xs : List A) (k next : ℕ) → length vs ≡ length xs → k ≤ next
     → ((j : ℕ) → k ≤ j → j < next → slice_get xs j ≡ slice_get vs j)
     → take k vs ++ drop k xs ≡ take next vs ++ drop next xs

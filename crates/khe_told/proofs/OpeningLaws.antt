@@ -52,7 +52,7 @@ pub slots_amount : (e : ℕ) (events : List EventInfo)
 slots_amount e events = sym (length-map (slots_from e events) (λ (x : Slot). x.event.0))
     ∙ ap length (events_of e events) ∙ length-slots_from e events
 
--- the rows of so many slots
+-- the rows of n slots
 pub record IsOpened (p : Parts) (rs : List Row) (n : ℕ) : Type 0 where
   pub slots : free_slots 0 rs ≡ take n (no_meets p)
   pub order : AreInOrder 0 (first_task p.events n) rs

@@ -26,7 +26,7 @@ span_of m = Some (record { duration = m.duration; start = m.start })
 abbrev pub resource_of : Task → Option ResourceId
 resource_of t = t.resource
 
--- a slot with another meet and what so many of its places are given
+-- a slot with another meet and what n of its places are given
 abbrev pub part : Slot → Option Span → List (Option ResourceId) → ℕ → Slot
 part x y vs k = record x { span = y; given = take k vs ++ drop k x.given }
 

@@ -302,7 +302,7 @@ repair_there number depth budget (Some bytes) =
     let s = repair_in number depth budget bytes x.0 x.1 in
     (s.0, s.1, record { reading = x.0; is = x.1; repaired = s.2 })
 
--- the job whose result comes first of so many
+-- the job whose result comes first of n
 abbrev ComesFirst : (ℕ → Job) → ℕ → ℕ → Type 0
 ComesFirst answer k j = (n : ℕ) → n < suc k → is_before (answer n).totals n (answer j).totals j ≡ false
 

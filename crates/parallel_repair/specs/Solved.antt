@@ -19,7 +19,7 @@ pub record IsLeftOut (answer : ℕ → Answer) (fates : List Fate) (n : ℕ) : T
   pub free : CostsNothing (answer by).totals
   pub least : (m : ℕ) → m < by → CostsNothing (answer m).totals → ⊥
 
--- the result is that of the job that comes first of all jobs, also of those that were left out
+-- the result is that of the job that comes first of all jobs, also of the jobs that were left out
 pub record IsSolved (answer : ℕ → Answer) (jobs : ℕ) (s : Solved) : Type 0 where
   pub count : length s.fates ≡ jobs
   pub fates : (n : ℕ) → n < jobs → HasRun answer s.fates n ⊎ IsLeftOut answer s.fates n

@@ -24,7 +24,7 @@ IsBest answer ns (Some b) = IsAmong b.job ns × (b.totals ≡ (answer b.job).tot
 abbrev pub IsDone : List ℕ → List ℕ → ℕ → Type 0
 IsDone looks ran n = IsAmong n ran ⊎ ((m : ℕ) × IsAmong m looks × (m < n))
 
--- each job that was claimed is done, and those that ran and cost nothing are those that were offered
+-- each job that was claimed is done, and the jobs that ran and cost nothing are the jobs that were offered
 pub record IsWorked (answer : ℕ → Answer) (jobs : ℕ) (claims offers looks : List ℕ) (rows : List Row)
     (best : Option Best) : Type 0 where
   pub done : (n : ℕ) → IsAmong n claims → n < jobs → IsDone looks (jobs_of rows) n

@@ -24,10 +24,10 @@ use std::thread::Threads;
 /// number are left out. The result is the same for every number of workers and all their turns, and
 /// that of all jobs done one after another; which jobs are left out isn't.
 ///
-/// It fails only where memory is refused, and there is none for a thread that can't be had: this one then does
-/// its work. It takes the time of the jobs that are run, divided among the workers that run at the same time,
-/// and a little for each job. No more workers start than there are jobs. It takes memory for one desk and two
-/// results at a time for each worker that starts, and a row for each job.
+/// It fails only where memory is refused, and never for a thread that can't be had: this one then does its
+/// work. It takes the time of the jobs that are run, divided among the workers that run at the same time, and a
+/// little for each job. No more workers start than there are jobs. It takes memory for one desk and two results
+/// at a time for each worker that starts, and a row for each job.
 pub fn solved_by<R: Threads + Sync, W: Work, G: Gate>(
     rt: &R,
     alloc: Global,

@@ -10,7 +10,7 @@ use Rattle.command_words.specs.Words.{Asked, checking, evaluating}
 abbrev pub Holdings : Type 0
 Holdings = Option (List ℕ → Option (List ℕ))
 
--- the statuses of a run that was neither cut off by a device nor where memory is refused
+-- the statuses of a run that neither a device nor a lack of memory cut off
 abbrev pub IsDecided : ℕ → Type 0
 IsDecided status = (status ≡ 0) ⊎ (status ≡ 2) ⊎ (status ≡ 3) ⊎ (status ≡ 7)
 

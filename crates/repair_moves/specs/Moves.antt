@@ -1,5 +1,5 @@
--- The moves of a monitor in a state, in the order in which they are tried: part by part, item by item, choice by
--- choice, those that the table of edits accepts.
+-- The moves of a monitor in a state, in the order in which they are tried: part by part, item by item, choice
+-- by choice, where the table of edits accepts them.
 use Rattle.std.specs.Prelude.{ℕ, ◌+◌, ◌-◌, Bool, is_none, is_some, if◌then◌else◌, List, [], map, length, slice_get}
 use Rattle.std.specs.List.{flat_map}
 use Rattle.std.specs.Option.{option_map_or}

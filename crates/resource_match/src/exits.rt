@@ -178,8 +178,8 @@ fn cheaper(exit: Exit, way: Exit) -> Exit
     }
 }
 
-/// The cheapest way out of a task. It takes time in proportion to the blocks, and to the resources
-/// of those whose cheapest one was taken.
+/// The cheapest way out of a task. It takes time in proportion to the blocks, and to the resources of the
+/// blocks whose cheapest one was taken.
 pub(crate) fn exit_of(
     costs: &Costs,
     owners: &[Option<u32>],

@@ -48,7 +48,7 @@ value_at p rows rule _ = 0
 abbrev pub value_in : Parts → List (List ℕ) → Monitor → ℕ
 value_in p rows m = option_map_or (λ c. value_at p rows c.rule m.point) (slice_get p.constraints m.constraint) 0
 
--- those that list all times
+-- the kinds that list all times
 abbrev pub lists_all : Kind → Bool
 lists_all k = is_kind k kind.AvoidClashes
 

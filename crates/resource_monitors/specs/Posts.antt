@@ -15,7 +15,7 @@ use Rattle.resource_monitors.specs.declared.posts.Post.{Post}
 abbrev pub post : ℕ → Monitor → Post
 post k m = record { number = record { 0 = k }; monitor = m }
 
--- those that pass a test, of monitors that are numbered on from this number
+-- the monitors that pass a test, of monitors that are numbered on from this number
 abbrev pub posts_from : (Monitor → Bool) → ℕ → List Monitor → List Post
 posts_from test k [] = []
 posts_from test k (m ∷ ms) = if test m then post k m ∷ posts_from test (k + 1) ms else posts_from test (k + 1) ms
@@ -45,7 +45,7 @@ ArePosts p list = (k : ℕ) (a : Post) → slice_get list k ≡ Some a → slice
 abbrev pub IsDueIn : (Monitor → Bool) → List Post → ℕ → Type 0
 IsDueIn test list i = (j : ℕ) × (a : Post) × (slice_get list j ≡ Some a) × (a.number.0 ≡ i) × (test a.monitor ≡ true)
 
--- the first posts of a list that pass a test wait, those that waited wait on, and no other comes
+-- the first posts of a list that pass a test wait, monitors that waited wait on, and no other comes
 pub record AreAdded (test : Monitor → Bool) (list : List Post) (k : ℕ) (old new : ℕ → Bool) : Type 0 where
   pub each : (j : ℕ) (a : Post) → j < k → slice_get list j ≡ Some a → test a.monitor ≡ true → new a.number.0 ≡ true
   pub kept : WaitOn old new

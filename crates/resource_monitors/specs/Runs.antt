@@ -25,7 +25,7 @@ pub record IsWithin (p : Parts) (run : Run) : Type 0 where
   pub order : run.start ≤ run.end
   pub times : run.end ≤ length p.times
 
--- each is one of so many resources
+-- each is one of n resources
 abbrev pub AreOf : List (Option ResourceId) → ℕ → Type 0
 AreOf given resources = (j : ℕ) (r : ResourceId) → slice_get given j ≡ Some (Some r) → r.0 < resources
 

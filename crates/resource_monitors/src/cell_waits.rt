@@ -81,7 +81,7 @@ fn is_due(
     may_differ(monitor.kind, low) && lists_one(inst, sets, monitor, start, end)
 }
 
-/// Lets a monitor wait, if it lists one of the times and may measure another value.
+/// Queues a monitor, if it lists one of the times and may measure another value.
 fn add_one<W: Waits>(
     inst: &Instance,
     sets: &TimeSets,

@@ -59,7 +59,7 @@ fn run_case<F: Family, L: Ledger>(
     })
 }
 
-/// The repair of a case. It knows of no family what it owns, so its exits cost little to prove.
+/// The repair of a case. It is generic in the family, so its exits cost little to prove.
 fn repaired<F: Family + Drop>(
     alloc: Global,
     inst: &Instance,

@@ -29,8 +29,7 @@ struct Case<'a> {
     fates: &'a [Fate],
 }
 
-/// What the jobs of a case come to. It knows of no family what it owns, so its exits cost little to
-/// prove.
+/// What the jobs of a case come to. It is generic in the family, so its exits cost little to prove.
 fn solved<F: Family + Drop + Send + Sync, R: Threads + Sync, G: Gate>(
     rt: &R,
     alloc: Global,

@@ -307,7 +307,7 @@ module _ (p : Parts) (m : Monitor) (s : List Slot) (t : SlotTurn) (turns : IsTur
           let l = h.0 in
           absurd (apart (beyond t.before.given k None (omega (arith, l, same)) ∙ sym (beyond t.after.given k None l)))
 
-  -- so many of these
+  -- n of these
   midway_past : (numbers row : List ℕ) (n i d : ℕ) → i + d ≤ length t.after.given
       → ((j : ℕ) → i ≤ j → j < i + d → IsStill j) → AreMidway p m s t numbers row n i
       → AreMidway p m s t numbers row n (i + d)

@@ -9,7 +9,7 @@ use Rattle.timetables.specs.Counts.{row_of, is_busy}
 abbrev pub one_if : Bool → ℕ
 one_if b = if b then 1 else 0
 
--- whether some of so many events run, and not all
+-- whether some of n events run, and not all
 abbrev pub is_apart : ℕ → ℕ → Bool
 is_apart running events = nat_lt 0 running && nat_lt running events
 
@@ -17,11 +17,11 @@ is_apart running events = nat_lt 0 running && nat_lt running events
 abbrev pub running_at : List (List ℕ) → ℕ → ℕ
 running_at rows t = count_by (λ row. is_busy row t) rows
 
--- at how many of so many times some of them run and some do not
+-- at how many of n times some of them run and some do not
 abbrev pub apart_times : List (List ℕ) → ℕ → ℕ
 apart_times rows times = count_by (λ t. is_apart (running_at rows t) (length rows)) (range_with_len 0 times)
 
--- so many events and so many times, at which so many events run, are those of the rows, and so is at
+-- the given numbers of events and of times, and at how many of these events run, are those of the rows, and so is at
 -- how many times some but not all run
 pub record AreLinked (rows : List (List ℕ)) (events : ℕ) (running : List ℕ) (apart : ℕ) : Type 0 where
   pub all : events ≡ length rows

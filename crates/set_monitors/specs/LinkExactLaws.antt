@@ -33,8 +33,7 @@ use Rattle.timetables.specs.Counts.{is_busy, row_of}
 use Rattle.set_monitors.specs.LinkCounts.{AreLinked, apart_times, is_apart, one_if, running_at}
 use Rattle.set_monitors.specs.Links.{AreOfGroup, members_at, meets_at, slot_runs}
 
--- some of a list pass where the number of those that pass is above 0, and all where it is that of the
--- list
+-- some of a list pass where the number of items that pass is above 0, and all where it is that of the list
 above_one : (b : Bool) (n : ℕ) → nat_lt 0 (one_if b + n) ≡ (b || nat_lt 0 n)
 above_one true n = lt-ltb 0 (1 + n) (omega arith)
 above_one false n = ap (nat_lt 0) (zero-add n)

@@ -224,7 +224,7 @@ fn fall(candidates: &[u32], counts: &mut Vec<u32>, above: u32, given: Option<Res
     above.saturating_sub(u32::from(before == 1))
 }
 
-// The place of a number among ascending ones, by halves.
+// The place of a number among ascending ones, by binary search.
 fn place_among(numbers: &[u32], number: u32) -> usize
     requires ascending { AreAscending numbers.now }
     requires listed { IsListed numbers.now number }

@@ -5,7 +5,7 @@ ghost use Rattle.set_monitors.specs.Links.{AreAscending};
 
 use khe_base::EventId;
 
-/// The place of an event among ascending events of which it is one, by halves.
+/// The place of an event among ascending events of which it is one, by binary search.
 pub(crate) fn rank_of(events: &[u32], event: EventId) -> usize
     requires ascending { AreAscending events.now }
     requires there { (k : ℕ) × (slice_get events.now k ≡ Some event.0) }

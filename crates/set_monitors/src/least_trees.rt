@@ -40,7 +40,7 @@ impl Least {
         Ok(Least { nodes, size })
     }
 
-    /// Puts another number at a place, in time of the logarithm of the places.
+    /// Puts another number at a place, in time in proportion to the logarithm of the places.
     pub(crate) fn set(&mut self, place: usize, number: u32)
         requires { place < length self.old }
         ensures { self.new ≡ slice_set self.old place number }

@@ -30,7 +30,7 @@ impl Edges {
         Ok(Edges { starts, ends })
     }
 
-    /// Gives a slot this meet, in time of the logarithm of the slots.
+    /// Gives a slot this meet, in time in proportion to the logarithm of the slots.
     pub(crate) fn set(&mut self, place: usize, span: Option<Span>)
         requires start { place < length self.old.starts }
         requires end { place < length self.old.ends }

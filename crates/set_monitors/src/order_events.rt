@@ -23,10 +23,10 @@ pub type OrderEvents = Keeping<OrderEdges>;
 
 /// The keeper of Order Events. It is lent the told state.
 ///
-/// It keeps, for each event that a served monitor names, when the meet of each meet slot starts and
-/// ends, four numbers a slot. A turn that moves a meet takes time of the logarithm of its event's meet
-/// slots, and then that of the monitors that name the event. Where there are none, and where the meet
-/// does not move, it takes constant time.
+/// It keeps, for each event that a served monitor names, when the meet of each meet slot starts and ends, four
+/// numbers a slot. A turn that moves a meet takes time in proportion to the logarithm of its event's meet
+/// slots, and then that of the monitors that name the event. Where there are none, and where the meet does not
+/// move, it takes constant time.
 #[derive(Drop)]
 pub struct OrderEdges {
     posts: Seq<Post>,

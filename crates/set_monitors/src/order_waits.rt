@@ -12,7 +12,7 @@ use khe_base::EventId;
 use khe_instance::Instance;
 use khe_told::Waits;
 
-/// Lets each monitor that names an event wait. It takes the time of these monitors.
+/// Queues each monitor that names an event. It takes the time of these monitors.
 pub(crate) fn add_all<W: Waits>(
     inst: &Instance,
     posts: &[Post],

@@ -74,7 +74,7 @@ fn place_with_role(inst: &Instance, monitor: Monitor, event: EventId) -> Option<
     None
 }
 
-/// The place in the role of an event, by halves, or `None` where the event has none.
+/// The place in the role of an event, by binary search, or `None` where the event has none.
 pub(crate) fn place_of(list: &[RolePlace], event: EventId) -> Option<usize>
     requires { AreByEvents list.now }
     ensures { MatchOption result ((i : ℕ) → IsAt list.now event.0 i → ⊥) (IsPlaceAt list.now event.0) }

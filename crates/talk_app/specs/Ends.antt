@@ -1,5 +1,5 @@
--- How a run of `khe-talk` ends: by an outcome that is written whole, by a device that refused a call, or where
--- memory is refused.
+-- How a run of `khe-talk` ends: by an outcome that is written whole, by a device that refused a call, or
+-- because memory ran out.
 use Rattle.std.specs.Prelude.{ℕ, ◌≡◌, ◌⊎◌, Option, None, Some, IfSome, Result, Ok, Err, List}
 use Rattle.khe_io.specs.Faults.{Rose, Took, TookFront}
 use Rattle.khe_io.specs.Shelf.{IsMissing}

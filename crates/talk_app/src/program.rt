@@ -49,8 +49,8 @@ pub fn talk_by_words<S: Shelf, R: BufRead, K: Sink>(
     ensures found { IsTrue (S.is_sound shelf.old) → LacksArchive (map string_bytes words.now) (S.holdings shelf.old) → (result.0 ≡ 4) ⊎ (result.0 ≡ 6) }
     ensures absent { IsTrue (S.is_sound shelf.old) → LacksArchive (map string_bytes words.now) (S.holdings shelf.old) → result.0 ≡ 4 }
 
-    // Where neither a device nor a line is to blame, the run ends as the definitions say, or where memory is
-    // refused.
+    // Where neither a device nor a line is to blame, the run ends as the definitions say, or because memory ran
+    // out.
     ensures complete { (IsTrue (S.is_sound shelf.old) ⊎ (Rose (S.faults shelf.old) (S.faults shelf.new) → ⊥)) → (Rose (K.faults out.old) (K.faults out.new) → ⊥) → (Rose lines.old.faults lines.new.faults → ⊥)
         → (result.0 ≡ 6) ⊎ EndedBy (map string_bytes words.now) (S.holdings shelf.old) (R.remaining lines.old.reader) (K.taken out.old) (K.taken out.new) result.0 }
 

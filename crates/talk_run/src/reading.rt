@@ -82,7 +82,7 @@ fn has_end(line: &[u8]) -> bool
     line[line.len() - 1] == b'\n'
 }
 
-/// Why a line was not read. Where it is not where memory is refused a fault is counted.
+/// Why a line was not read. Unless memory was refused, a fault is counted.
 fn fault_of(error: &io::Error, faults: &mut u64) -> TalkFault
     ensures written { result ≡ TalkFault.WriteFault → ⊥ }
     ensures unread { result ≡ TalkFault.ReadFault → Rose faults.old faults.new }

@@ -155,7 +155,7 @@ left_by p plain left s depth budget v totals made valid whole single begins is e
 
 -- a told timetable is that of a state
 module _ (p : Parts) (ms : List Meet) (ts : List Task) (made : AreWellMade p) (told : IsTold p ms ts) where
-  -- so many meets and tasks are in their slots, and so many meets more are to come
+  -- the first i meets and their tasks are in their slots, and at most k meets are to come
   filled_from : (k i next : ℕ) (s : List Slot) → IsAmid p ms ts s i next → length ms ≤ i + k
       → (t : List Slot) × AreFilled p ms ts t
   filled_from zero i next s h l = (s, amid_done p ms ts s i next (omega (arith, l)) h)

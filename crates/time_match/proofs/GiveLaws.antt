@@ -13,7 +13,7 @@ use Rattle.time_match.specs.Marks.{IsInside}
 use Rattle.time_match.specs.Open.{AreReady}
 use Rattle.time_match.proofs.OpenLaws.{chosen_next, may_give_each, ready_next}
 
--- so many of the tasks have what the choice gives them
+-- n of the tasks have what the choice gives them
 pub record AreGiven (w v : World) (rs : List ResourceId) (ts : List TaskId) (cs : List (Option ℕ)) (k : ℕ) : Type
     0 where
   pub parts : v.parts ≡ w.parts

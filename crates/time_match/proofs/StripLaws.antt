@@ -17,7 +17,7 @@ use Rattle.time_match.specs.Marks.{IsInside}
 use Rattle.time_match.specs.Open.{IsOpenFor}
 use Rattle.time_match.proofs.OpenLaws.{bare_next, may_take, stripped_all}
 
--- so many of the tasks are stripped
+-- n of the tasks are stripped
 pub record IsStripped (w v : World) (ts : List TaskId) (k : ℕ) : Type 0 where
   pub parts : v.parts ≡ w.parts
   pub free : (rs : List ResourceId) × All (IsOpenFor v.parts rs v.state.slots) ts

@@ -20,7 +20,8 @@ use Rattle.time_match.specs.Wishes.{rest_in}
 use Rattle.time_match.specs.declared.leaders.Leader.{Leader}
 use Rattle.time_match.specs.declared.likenesses.Likeness.{Likeness}
 
--- the numbers of the monitors that prefer some resources, and of those that are on the resources of a group together
+-- the numbers of the monitors that prefer some resources, and of the monitors that are on the resources of a
+-- group together
 abbrev pub is_preference_at : Parts → ℕ → Bool
 is_preference_at p n = option_map_or (λ (m : Monitor). option_map_or (λ (c : Constraint). is_preference c.rule)
     (slice_get p.constraints m.constraint) false) (slice_get p.monitors n) false

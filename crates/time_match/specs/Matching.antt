@@ -35,7 +35,7 @@ pub record IsMatched (p : Parts) (s : State) (time rtype : ℕ) (m : Matched) : 
 abbrev pub left_by : Parts → State → ℕ → ℕ → Matched → State
 left_by p s time rtype m = if m.taken then whole p s time rtype m.cheapest.chosen else s
 
--- why there is none, where so many tasks run at the time
+-- why there is none, where n tasks run at the time
 abbrev pub IsFaultFor : ℕ → MatchFault → Type 0
 IsFaultFor many (TooManyTasks n) = (n ≡ many) × (MATCHED_TASKS < many)
 IsFaultFor many NoMemory = many ≤ MATCHED_TASKS

@@ -205,7 +205,7 @@ fn push_task<F: Family>(
     }
 }
 
-/// What each task of which this was read would cost with each of these resources, row by row.
+/// What each task would cost with each of these resources, row by row, by what was read of the tasks.
 fn pairs_with<F: Family>(
     alloc: Global,
     engine: &mut Engine<'_, F>,

@@ -2,8 +2,8 @@
 use Rattle.std.specs.Prelude.{ℕ, List, [], ◌∷◌, ◌==◌, if◌then◌else◌, codes}
 use Rattle.std.specs.List.{flat_map}
 
--- what a reader sees of one character: those that turn the direction of the text around them by their numbers, so
--- that they are seen and turn nothing, and each other one as it is
+-- what a reader sees of one character: characters that turn the direction of the text around them by their
+-- numbers, so that they are seen and turn nothing, and each other one as it is
 unfoldable pub shown_character : ℕ → List ℕ
 shown_character c =
     if c == 1564 then codes "[U+061C]"

@@ -27,7 +27,7 @@ abbrev pub AreSections : Resolved → List RawSolution → ℕ → List ℕ → 
 AreSections r raws zero text = text ≡ []
 AreSections r raws (suc n) text = (before : List ℕ) × AreSections r raws n before × IsNext r raws n before text
 
--- a page with the sections of so many solutions
+-- a page with the sections of n solutions
 pub record IsPage (a : Archive) (r : Resolved) (n : ℕ) (text : List ℕ) : Type 0 where
   pub opening : List ℕ
   pub sections : List ℕ

@@ -44,7 +44,7 @@ fn push_meet(page: &mut Draft, view: &View<'_>, resource: u32, meet: u32) {
     page.push_literal("</div>");
 }
 
-/// Which monitors deviate at a cell with so many meets.
+/// Which monitors deviate at a cell with this many meets.
 fn wrong_at(marks: &Marks, time: u32, busy: usize) -> Wrong {
     let clash = if busy > 1 { marks.clash } else { None };
     let closed = said_of(marks.closed.as_slice(), time).defect;
@@ -124,7 +124,7 @@ struct Grid<'a> {
     marks: &'a Marks,
 }
 
-/// Adds the cell of a time, which is as high as so many rows.
+/// Adds the cell of a time, which is this many rows high.
 fn push_cell(page: &mut Draft, view: &View<'_>, grid: Grid<'_>, time: u32, rows: usize) {
     let meets = list_at(grid.cells, time);
     page.push_literal("<td");

@@ -68,7 +68,7 @@ fn fewest_words(raw: &RawInstance, columns: &[Column]) -> usize {
     if fewest == usize::MAX { 0 } else { fewest }
 }
 
-/// The rest of a name without so many words, and the whole name where it has no more words.
+/// The rest of a name without its first words, or the whole name where it has no more words than these.
 fn rest_of(alloc: Global, name: &Text, words: usize) -> Result<Text, NoMemory> {
     if blanks(name.as_bytes(), usize::MAX) < words {
         return name.copy(alloc);

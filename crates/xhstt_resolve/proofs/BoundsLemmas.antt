@@ -44,7 +44,7 @@ sum_within f most (x ∷ xs) h =
     let more : most + length xs * most ≡ suc (length xs) * most = omega (arith, suc-mul (length xs) most) in
     omega (arith, sum_by-cons f x xs, head, rest, more)
 
--- a constraint has at most so many points, and watches at most so much at all of them
+-- a constraint has at most this number of points, and watches at most this much at all of them
 pub record IsBounded (i : RawInstance) (c : RawConstraint) (points most : ℕ) : Type 0 where
   pub few : length (points_of i c) ≤ points
   pub small : watches_of i c ≤ points * most

@@ -207,7 +207,7 @@ row_is s r at from =
     (ap (λ n. length r.attributes + n) (length_attributes s.attributes (at + 1 + length s.name))) in
     rw e refl
 
--- what is known after an element without content, where so many elements and attributes came before
+-- what is known after an element without content, where n elements and attributes came before
 abbrev after_short : Start → Read → ℕ → ℕ → ℕ → Read
 after_short s r at number first = let to = at + start_length s + 2 in record {
   frames = r.frames;

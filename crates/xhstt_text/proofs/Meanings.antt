@@ -176,7 +176,7 @@ read_piece (decimal ds) rest h = ap (λ x. plain_after Plain [] (38 ∷ 35 ∷ x
 read_piece (hexadecimal ds) rest h = ap (λ x. plain_after Plain [] (38 ∷ 35 ∷ 120 ∷ x)) (append_assoc ds (59 ∷ []) rest)
     ∙ read_hexadecimal ds rest h.0 h.1
 
--- inside a comment, after so many dashes
+-- inside a comment, after n dashes
 abbrev inside : ℕ → Part
 inside zero = Comment
 inside (suc zero) = Dash

@@ -10,7 +10,7 @@ use Rattle.xhstt_text.proofs.Pieces.{decimal_isnt_x}
 use Rattle.xhstt_text.specs.Machine.{Phase, Within, Read, run, after_piece, hash, hash_x, in_decimal, in_hexadecimal}
 use Rattle.xhstt_text.specs.Machine.{no_character}
 
--- after so many digits, which stand for this number
+-- after n digits, which stand for this number
 abbrev pub decimal_phase : ℕ → ℕ → ℕ → Within → Phase
 decimal_phase place zero n w = hash place w
 decimal_phase place (suc count) n w = in_decimal place n w

@@ -62,7 +62,7 @@ pub data Phase : Type 0 where
   -- that must follow
   other_word : ℕ → ℕ → List ℕ → Phase
   bang_dash : Region → Phase  -- after `<!-`
-  in_comment : Region → ℕ → Phase  -- in a comment, after so many dashes
+  in_comment : Region → ℕ → Phase  -- in a comment, after n dashes
   opened : ℕ → Phase  -- after the `<` at this place
   start_name : ℕ → List ℕ → Phase  -- in the name of a start tag
   valued : Tag → Phase  -- after a value, or after the tag's name

@@ -5,7 +5,7 @@ use Rattle.ejection_repair.specs.Rounds.{IsRound}
 use Rattle.ejection_repair.specs.Trails.{moved_of}
 use Rattle.ejection_repair.proofs.endings.gather.Given as goal
 
--- so many are written, and the others are ahead
+-- n are written, and the others are ahead
 abbrev pub invariant-loop-count : goal.invariant-loop-count
 invariant-loop-count l = record {
   some : 1 ≤ l.count;
