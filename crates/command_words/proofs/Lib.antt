@@ -1,1 +1,5 @@
+mod GivenLaws
+mod NumberLaws
+pub mod ReadLaws
+pub mod TableLaws
 pub mod ValueLemmas

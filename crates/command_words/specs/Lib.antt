@@ -1,2 +1,4 @@
+pub mod Commands
 pub mod Requests
+pub mod Table
 pub mod Words

@@ -6,6 +6,7 @@ pub mod CutLaws
 pub mod KeepLaws
 pub mod LeastLaws
 pub mod LookLaws
+pub mod OnceLaws
 pub mod OrderLaws
 pub mod SplitLaws
 pub mod TakenLaws

@@ -2,12 +2,13 @@
 //! the function does nothing.
 #![allow(dead_code)]
 
-ghost use Rattle.std.specs.Prelude.{ℕ, ◌≡◌, ◌↔◌, ◌≤◌, ◌++◌, ◌∷◌, Some, None, List, All, IfSome, map, slice_get, sum};
+ghost use Rattle.std.specs.Prelude.{ℕ, ◌≡◌, ◌↔◌, ◌≤◌, ◌++◌, ◌∷◌, Some, None, List, All, IfSome, count_by, if◌then◌else◌, map, nat_eq, slice_get, sum};
 ghost use Rattle.construct.specs.Begun.{begun};
 ghost use Rattle.construct.specs.Choices.{assigns, gives, lowered, lowering};
 ghost use Rattle.construct.specs.Constructed.{constructed, staffed, timed};
 ghost use Rattle.construct.specs.Cuts.{Keeps, amount_of, parts, set_by};
 ghost use Rattle.construct.specs.Laws.{IsTaken, NoneLowers};
+ghost use Rattle.construct.specs.Orders.{order};
 ghost use Rattle.construct.specs.declared.bounds.Bounds.{Bounds};
 ghost use Rattle.khe_base.specs.declared.numbers.TaskId.{TaskId};
 ghost use Rattle.khe_engine.specs.Openings.{IsStateOf};
@@ -18,9 +19,18 @@ ghost use Rattle.khe_instance.specs.declared.parts.EventInfo.{EventInfo};
 ghost use Rattle.khe_instance.specs.declared.parts.Parts.{Parts};
 ghost use Rattle.khe_instance.specs.declared.points.Monitor.{Monitor};
 ghost use Rattle.khe_told.specs.Agreement.{deviation_in};
+ghost use Rattle.khe_told.specs.Fits.{AreTold};
 ghost use Rattle.khe_told.specs.Lists.{meets_in};
+ghost use Rattle.khe_told.specs.Slots.{is_live, slot_at};
 ghost use Rattle.khe_told.specs.declared.edits.Edit.{Edit};
 ghost use Rattle.khe_told.specs.declared.slots.Slot.{Slot};
+
+// In the order of turns each live meet of a told state stands just once, and nothing else stands there: so it is in the
+// state that a construction begins with.
+fn each_meet_has_its_turn_once()
+    ensures once { (p : Parts) (s : List Slot) (m : ℕ) → AreTold p s → count_by (λ k. nat_eq k m) (order s) ≡ (if is_live (slot_at s m) then 1 else 0) }
+    ensures begun { (p : Parts) (s : State) (m : ℕ) → IsStateOf p (begun p) s → count_by (λ k. nat_eq k m) (order s.slots) ≡ (if is_live (slot_at s.slots m) then 1 else 0) }
+{}
 
 // Of some edits the one that is taken is accepted, lowers the totals, and is the first of the edits that leave the
 // least; where none is taken, none that is accepted lowers the totals, and the state stays.

@@ -1,5 +1,4 @@
 pub mod BudgetLaws
 pub mod OwedLaws
 pub mod ServedLaws
-pub mod SmallLaws
 pub mod StandingLaws

@@ -1,9 +1,6 @@
--- The greatest costs, totals and group costs that a state may have, which the limits give.
-use Rattle.std.specs.Prelude.{ℕ, ◌≤◌, List, slice_index}
-use Rattle.khe_base.specs.declared.limits.TheConstants.{GREATEST_COST, GREATEST_DEVIATION, GREATEST_TOTAL}
-use Rattle.khe_base.specs.declared.sums.Totals.{Totals}
+-- That no timetable and no state that stands costs more than the limits allow.
+use Rattle.khe_engine.specs.Small.{AreWithin, CostsLittle}
 use Rattle.khe_engine.specs.States.{State}
-use Rattle.khe_engine.specs.Values as engine
 use Rattle.khe_instance.specs.Evaluated as evaluated
 use Rattle.khe_instance.specs.States.{IsTold}
 use Rattle.khe_instance.specs.WellMade.{AreWellMade}
@@ -11,30 +8,11 @@ use Rattle.khe_instance.specs.declared.parts.Parts.{Parts}
 use Rattle.khe_instance.specs.declared.states.Plain.{Plain}
 use Rattle.engine_laws.specs.Standing.{Stands}
 
--- no number of a list is above a greatest one
-abbrev pub AreUpTo : ℕ → List ℕ → Type 0
-AreUpTo greatest xs = (n : ℕ) → slice_index xs n ≤ greatest
-
--- both parts of totals are within the greatest total
-pub record AreSmall (t : Totals) : Type 0 where
-  pub hard : t.hard ≤ GREATEST_TOTAL
-  pub soft : t.soft ≤ GREATEST_TOTAL
-
--- each deviation, each cost and both totals are within the limits
-pub record AreWithin (deviations costs : List ℕ) (totals : Totals) : Type 0 where
-  pub deviations_ : AreUpTo GREATEST_DEVIATION deviations
-  pub costs_ : AreUpTo GREATEST_COST costs
-  pub totals_ : AreSmall totals
-
 -- those of a timetable
 abbrev pub TimetablesCostLittle : Type 0
 TimetablesCostLittle = (p : Parts) (s : Plain) → AreWellMade p → IsTold p s.meets s.tasks
     → AreWithin (evaluated.deviations p s) (evaluated.costs p s) (evaluated.totals p s)
 
 -- those of a state that stands, and what each of its groups costs
-pub record CostsLittle (p : Parts) (s : State) : Type 0 where
-  pub all : AreWithin (engine.deviations_in p s.slots) (engine.costs p s) (engine.totals p s)
-  pub groups : (g : ℕ) → AreSmall (engine.group_totals p s g)
-
 abbrev pub StatesCostLittle : Type 0
 StatesCostLittle = (p : Parts) (s : State) → AreWellMade p → Stands p s → CostsLittle p s

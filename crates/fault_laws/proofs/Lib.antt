@@ -1,3 +1,1 @@
-mod MeaningLaws
 mod OutcomeLaws
-mod RowLaws

@@ -1,8 +1,8 @@
 -- How a run ends that writes an archive in its canonical spelling.
-use Rattle.std.proofs.Common.{ℕ, ◌≡◌, Bool, List, [], Option, Some, None, IfSome, IsTrue, sym, subst, refl}
+use Rattle.std.proofs.Common.{ℕ, ◌≡◌, Bool, List, [], Option, Some, None, IfSome, sym, subst, refl}
 use Rattle.std.proofs.Common.{encode_utf8_all}
 use Rattle.std.specs.Str.{IsUtf8, chars}
-use Rattle.std.proofs.lemmas.Str.{encodes-chars, IsUtf8-encode}
+use Rattle.std.proofs.lemmas.Str.{encodes-chars}
 use Rattle.khe_io.specs.Shelf.{IsMissing}
 use Rattle.reading_commands.specs.Answers.{reading_of, IsAnswerOf, IsReadyAnswer}
 use Rattle.khe_app.specs.Ends.{IsEnd, LacksOf}

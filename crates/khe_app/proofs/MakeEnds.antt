@@ -1,6 +1,6 @@
 -- How a run ends that makes an archive, or runs its job.
-use Rattle.std.proofs.Common.{ℕ, ◌≡◌, ◌<◌, ◌≤◌, ◌^◌, ◌⊎◌, inl, inr, List, [], Option, Some, None, IfSome, Bool}
-use Rattle.std.proofs.Common.{Ok, Err, sym, ap, subst, ◌∙◌, refl, arith, encode_utf8_all, length, slice_get, IsTrue}
+use Rattle.std.proofs.Common.{ℕ, ◌≡◌, ◌<◌, ◌≤◌, ◌^◌, ◌⊎◌, inl, inr, List, Option, Some, None, IfSome, Bool}
+use Rattle.std.proofs.Common.{Ok, Err, sym, ap, subst, ◌∙◌, refl, arith, encode_utf8_all, length, slice_get}
 use Rattle.std.specs.Option.{option_map_or}
 use Rattle.std.specs.Str.{chars}
 use Rattle.std.proofs.lemmas.Str.{encodes-chars}
@@ -20,13 +20,11 @@ use Rattle.khe_app.specs.Outcome.{IsOutcomeOf, IsRunTo}
 use Rattle.command_words.specs.Words.{making, running}
 use Rattle.archive_reading.specs.declared.reading.Unread.{Unread}
 use Rattle.archive_reading.specs.declared.reading.Unread.TheVariants as unread
-use Rattle.archive_reading.specs.declared.refusals.Refusal.{Refusal}
 use Rattle.archive_reading.specs.declared.refusals.Refusal.TheVariants.{NoSuchSolution}
 use Rattle.khe_app.proofs.CheckEnds.{canonical_utf8}
 use Rattle.khe_app.proofs.EndsLemmas.{end_starved, end_written, not_two}
 use Rattle.parallel_solve.specs.Verdicts.{parts_at}
 use Rattle.xhstt_completion.specs.Completed.{completed}
-use Rattle.xhstt_references.specs.References.{solutions_of}
 use Rattle.xhstt_resolve.specs.Answers.{IsFaultOf}
 use Rattle.xhstt_resolve.specs.Resolved.{resolved}
 use Rattle.xhstt_resolve.specs.declared.faults.ResolveFault.{ResolveFault}

@@ -8,14 +8,13 @@ use Rattle.khe_instance.specs.declared.states.Plain.{Plain}
 use Rattle.khe_io.specs.Shelf.{IsMissing}
 use Rattle.reading_commands.specs.Answers.{reading_of, IsAnswerOf}
 use Rattle.khe_app.specs.Ends.{IsEnd, LacksOf}
-use Rattle.reading_commands.specs.Ends.{Holdings, IsDecided, Written}
+use Rattle.reading_commands.specs.Ends.{Holdings, Written}
 use Rattle.khe_app.specs.Outcome.{IsOutcomeOf}
 use Rattle.archive_reading.specs.Starting.{Start, begins, barred, start_of}
 use Rattle.archive_reading.specs.Reading.{Reading, evaluable, refused}
 use Rattle.khe_app.specs.Outcome.{IsMatchIn, IsMatchOf, IsMatchTo, IsMatchedAt}
 use Rattle.command_words.specs.Words.{matching}
 use Rattle.reading_commands.specs.declared.answers.Answer.{Answer}
-use Rattle.archive_reading.specs.declared.refusals.Refusal.{Refusal}
 use Rattle.khe_app.proofs.EndsLemmas.{end_starved, end_written, not_two}
 use Rattle.khe_app.proofs.RepairEnds.{decided, four_apart, two_apart}
 use Rattle.xhstt_resolve.specs.declared.resolving.Resolved.{Resolved}

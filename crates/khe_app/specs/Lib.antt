@@ -1,4 +1,9 @@
 pub mod Answers
+pub mod ByTables
+pub mod Deficits
 pub mod Ends
 pub mod Lines
 pub mod Outcome
+pub mod Promises
+pub mod Readings
+pub mod Texts

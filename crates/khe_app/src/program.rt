@@ -5,6 +5,8 @@ ghost use Rattle.khe_base.specs.declared.limits.TheConstants.{WORKERS};
 ghost use Rattle.khe_io.specs.Faults.{Rose, Took, TookFront};
 ghost use Rattle.khe_io.specs.Shelf.{IsMissing};
 ghost use Rattle.khe_app.specs.Answers.{IsPlayAnswer, IsReadyPlay, IsScriptOf, IsTextOf, IsWith};
+ghost use Rattle.khe_app.specs.ByTables.{EndedByTables};
+ghost use Rattle.khe_app.specs.Promises.{IsNoDearer, IsReadBack, Outnumber};
 ghost use Rattle.khe_app.specs.Ends.{EndedBy, CutOff, LacksArchive, LacksName, LacksOf, IsEnd};
 ghost use Rattle.reading_commands.specs.Ends.{Holdings, IsDecided, IsStatus, Written};
 ghost use Rattle.archive_reading.specs.Refusals as refusals;
@@ -105,6 +107,21 @@ pub fn khe<R: Threads + Sync, S: Shelf, K: Sink, G: Gate>(
     // Statuses 0, 2, 3 and 7 are those of the definitions, after their whole text.
     ensures decided { IsDecided result.0 → EndedBy (map string_bytes words.now) (S.holdings shelf.old) (K.taken out.old) (K.taken out.new) result.0 }
 
+    // The same, said without any machine: what the words ask for by the table of commands, and what an archive's
+    // bytes lead to by the rows of faults and the grammar of texts.
+    ensures by_tables { IsDecided result.0 → EndedByTables (map string_bytes words.now) (S.holdings shelf.old) (K.taken out.old) (K.taken out.new) result.0 }
+
+    // After a repair or a solve the taken bytes are read as the archive with that solution's entries changed, which
+    // costs what the line says and no more than before.
+    ensures no_dearer { result.0 ≡ 0 → IsNoDearer (asked (map string_bytes words.now)) (S.holdings shelf.old) (K.taken out.old) (K.taken out.new) }
+
+    // Each answer to `deficit` among the taken bytes names demands that outnumber the supplies that they may have
+    // by just its number.
+    ensures outnumber { (result.0 ≡ 0) ⊎ (result.0 ≡ 7) → Outnumber (asked (map string_bytes words.now)) (S.holdings shelf.old) (K.taken out.old) (K.taken out.new) }
+
+    // After a check the taken bytes are read as the same archive, and after `make` as the archive that is made.
+    ensures read_back { result.0 ≡ 0 → IsReadBack (asked (map string_bytes words.now)) (S.holdings shelf.old) (K.taken out.old) (K.taken out.new) }
+
     // Words without a reading end with status 2, or with 5 where the line could not be written,
     // and nothing is read.
     ensures no_reading { asked (map string_bytes words.now) ≡ None → ((result.0 ≡ 2) ⊎ (result.0 ≡ 5)) × (shelf.new ≡ shelf.old) }
@@ -139,6 +156,10 @@ pub fn khe<R: Threads + Sync, S: Shelf, K: Sink, G: Gate>(
     ensures complete { (IsTrue (S.is_sound shelf.old) ⊎ (Rose (S.faults shelf.old) (S.faults shelf.new) → ⊥)) → (Rose (K.faults out.old) (K.faults out.new) → ⊥)
         → (result.0 ≡ 6) ⊎ EndedBy (map string_bytes words.now) (S.holdings shelf.old) (K.taken out.old) (K.taken out.new) result.0 }
 
+    // Where nothing is read, as for `make`, the run ends so whatever stands under the names, also over a shelf that
+    // keeps its content to itself.
+    ensures needs_no_shelf { is_read (asked (map string_bytes words.now)) ≡ false → (h : Holdings) → IsEnd (asked (map string_bytes words.now)) h (S.is_sound shelf.old) (S.faults shelf.old) (S.faults shelf.new) (K.taken out.old) (K.taken out.new) (K.faults out.old) (K.faults out.new) result.0 }
+
     // The devices stay as they were but for what was read and written.
     ensures unread { is_read (asked (map string_bytes words.now)) ≡ false → shelf.new ≡ shelf.old }
     ensures holdings { S.holdings shelf.new ≡ S.holdings shelf.old }
@@ -165,6 +186,7 @@ fn respond<R: Threads + Sync, S: Shelf, K: Sink, G: Gate>(
     ensures line { result.0 ≡ 2 → Took (K.taken out.old) (K.taken out.new) (encode_utf8_all not_understood_line) }
     ensures line_cut_off { asked (map string_bytes words.now) ≡ None → result.0 ≡ 5 → TookFront (K.taken out.old) (K.taken out.new) (encode_utf8_all not_understood_line) }
     ensures absent { IsTrue (S.is_sound shelf.old) → LacksArchive (map string_bytes words.now) (S.holdings shelf.old) → result.0 ≡ 4 }
+    ensures needs_no_shelf { is_read (asked (map string_bytes words.now)) ≡ false → (h : Holdings) → IsEnd (asked (map string_bytes words.now)) h (S.is_sound shelf.old) (S.faults shelf.old) (S.faults shelf.new) (K.taken out.old) (K.taken out.new) (K.faults out.old) (K.faults out.new) result.0 }
     ensures unread { is_read (asked (map string_bytes words.now)) ≡ false → shelf.new ≡ shelf.old }
     ensures holdings { S.holdings shelf.new ≡ S.holdings shelf.old }
     ensures read_fault_ends { (result.0 ≡ 4) ⊎ (S.faults shelf.new ≡ S.faults shelf.old) }

@@ -6,6 +6,7 @@ pub mod MarkLaws
 pub mod OpeningLaws
 pub mod RecordLaws
 pub mod SettleLaws
+pub mod SmallLaws
 pub mod StateLaws
 pub mod TrialLaws
 pub mod ValueLaws

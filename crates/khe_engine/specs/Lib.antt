@@ -4,6 +4,7 @@ pub mod Openings
 pub mod Records
 pub mod Resting
 pub mod Settled
+pub mod Small
 pub mod States
 pub mod Values
 pub mod Worlds

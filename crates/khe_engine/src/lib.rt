@@ -6,6 +6,7 @@ mod behind;
 mod edited;
 mod editing;
 mod engine;
+mod facts;
 mod faults;
 mod late;
 mod listeners;

@@ -61,7 +61,7 @@ use Rattle.xhstt_writer.specs.Archives.{canonical}
 use Rattle.khe_base.proofs.ListLemmas.{all-there}
 use Rattle.outcome_laws.specs.Outcomes.{AreOne}
 use Rattle.outcome_laws.proofs.AnswerLaws.{Answer, both}
-use Rattle.outcome_laws.proofs.ReadingLaws.{one_reading, spelled_by}
+use Rattle.khe_app.proofs.ReadingLaws.{one_reading, spelled_by}
 use Rattle.outcome_laws.proofs.ThereLaws.{reading_there}
 
 -- a state that is constructed is valid, with the monitors and groups of the one before

@@ -1,12 +1,7 @@
 pub mod AnswerLaws
-pub mod ReadingLaws
-pub mod StartLaws
-pub mod TextLaws
 pub mod OneLaws
 pub mod MatchLaws
-pub mod DeficitLaws
 pub mod NeverLaws
-pub mod WordLaws
 pub mod ThereLaws
 pub mod ConstructLaws
 pub mod OutcomeLaws

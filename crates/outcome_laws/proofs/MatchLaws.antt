@@ -12,7 +12,7 @@ use Rattle.match_run.specs.declared.finding.Found.{Found}
 use Rattle.time_match.specs.Tasks.{matched}
 use Rattle.xhstt_shape.specs.declared.records.Archive.{Archive}
 use Rattle.outcome_laws.proofs.OneLaws.{made_of, one_state}
-use Rattle.outcome_laws.proofs.ReadingLaws.{one_reading}
+use Rattle.khe_app.proofs.ReadingLaws.{one_reading}
 
 not_both : (p : Parts) (plain : Plain) (time rtype n : ℕ) (f : Found) → AreWellMade p
     → AreTooMany p plain time rtype n → IsFound p plain time rtype f → ⊥

@@ -37,8 +37,8 @@ use Rattle.xhstt_writer.specs.Archives.{canonical}
 use Rattle.khe_app.specs.Outcome.{answers_of}
 use Rattle.outcome_laws.specs.Outcomes.{AreOne}
 use Rattle.outcome_laws.proofs.AnswerLaws.{both}
-use Rattle.outcome_laws.proofs.ReadingLaws.{one_reading, spelled_by}
-use Rattle.outcome_laws.proofs.StartLaws.{same_start, started_by}
+use Rattle.khe_app.proofs.ReadingLaws.{one_reading, spelled_by}
+use Rattle.khe_app.proofs.StartLaws.{same_start, started_by}
 
 -- the parts of a run are well made
 pub made_of : (bytes : List ℕ) (a : Archive) (r : Resolved) (number : ℕ) (p : Parts) (plain : Plain)

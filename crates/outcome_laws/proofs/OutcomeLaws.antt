@@ -11,7 +11,7 @@ use Rattle.outcome_laws.proofs.MatchLaws.{match_statuses}
 use Rattle.outcome_laws.proofs.OneLaws.{answers, made_runs, plays, repairs, solves, spellings}
 use Rattle.outcome_laws.proofs.ThereLaws.{answer_there, made_run_there, make_there, play_there, repair_there, solve_there}
 use Rattle.outcome_laws.proofs.ThereLaws.{spelling_there}
-use Rattle.outcome_laws.proofs.WordLaws.{IsAskable, askable}
+use Rattle.khe_app.proofs.WordLaws.{IsAskable, askable}
 
 never : {A : Type 0} → true ≡ false → A
 never e = absurd (let g : ⊥ = cc in g)

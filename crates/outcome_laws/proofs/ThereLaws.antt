@@ -73,8 +73,8 @@ use Rattle.xhstt_writer.specs.Archives.{canonical}
 use Rattle.xhstt_writer.proofs.Written.{canonical_spells}
 use Rattle.outcome_laws.proofs.AnswerLaws.{Answer}
 use Rattle.outcome_laws.proofs.NeverLaws.{resolved_never, shape_never}
-use Rattle.outcome_laws.proofs.ReadingLaws.{spelled_by}
-use Rattle.outcome_laws.proofs.StartLaws.{started_by}
+use Rattle.khe_app.proofs.ReadingLaws.{spelled_by}
+use Rattle.khe_app.proofs.StartLaws.{started_by}
 
 -- the greatest front of bytes that is UTF-8
 untrue : {A : Type 0} → true ≡ false → A

@@ -1,3 +1,1 @@
-pub mod Deficits
 pub mod Outcomes
-pub mod Texts

@@ -1,10 +1,10 @@
 //! Laws on the outcomes of the program, each the contract of a function that does nothing: no program calls these.
 #![allow(dead_code)]
 
-ghost use Rattle.outcome_laws.specs.Deficits.{DeficitsOutnumber};
+ghost use Rattle.khe_app.specs.Deficits.{DeficitsOutnumber};
 ghost use Rattle.outcome_laws.specs.Outcomes.{EachRunHasOneOutcome, MakingReadsNothing, NoRunHasTwoStatuses};
 ghost use Rattle.outcome_laws.specs.Outcomes.{OutcomesDoNotHang};
-ghost use Rattle.outcome_laws.specs.Texts.{ChecksAreReadAgain, RepairsAreNoDearer, SolvesAreNoDearer};
+ghost use Rattle.khe_app.specs.Texts.{ChecksAreReadAgain, RepairsAreNoDearer, SolvesAreNoDearer};
 
 // All words have one outcome, whatever stands under the names: there is a status and a text, and any other outcome has
 // the same status and the same bytes. The words of `match` have one status, and the choice of its text is left open.

@@ -1,6 +1,2 @@
-mod GivenLaws
-mod NumberLaws
 mod OutcomeLaws
 mod ReadExamples
-mod ReadLaws
-mod TableLaws

@@ -4,9 +4,9 @@ use Rattle.khe_app.specs.Outcome.{IsOutcome, IsOutcomeOf}
 use Rattle.reading_commands.specs.Lines.{not_understood_line}
 use Rattle.command_words.specs.Words.{Asked, asked}
 use Rattle.word_laws.specs.Outcomes.{IsOutcomeByTable}
-use Rattle.word_laws.specs.Table.{HasNoReading}
-use Rattle.word_laws.proofs.ReadLaws.{read_by_table}
-use Rattle.word_laws.proofs.TableLaws.{asked_by_table, unread}
+use Rattle.command_words.specs.Table.{HasNoReading}
+use Rattle.command_words.proofs.ReadLaws.{read_by_table}
+use Rattle.command_words.proofs.TableLaws.{asked_by_table, unread}
 
 by_reading : (words : List (List ℕ)) (under : List ℕ → Option (List ℕ)) (status : ℕ) (text : List ℕ) (o : Option Asked)
     → asked words ≡ o → IsOutcomeOf o under status text → IsOutcomeByTable words under status text

@@ -7,8 +7,8 @@ use Rattle.command_words.specs.Words.{number_to, placed_by, repair_with, run_by,
 use Rattle.command_words.specs.Words.{value_of, workers_by, workers_of}
 use Rattle.word_laws.specs.Examples.{AreNotRead, AreRead, Row, checks, constructions, makings, matchings, missing, others}
 use Rattle.word_laws.specs.Examples.{out_of_form, out_of_range, repairs, reports, scripts, solves, twice, unknown, words_of}
-use Rattle.word_laws.proofs.ReadLaws.{read_by_table}
-use Rattle.word_laws.proofs.TableLaws.{unread}
+use Rattle.command_words.proofs.ReadLaws.{read_by_table}
+use Rattle.command_words.proofs.TableLaws.{unread}
 
 abbrev pub AreAsked : List Row → Type 0
 AreAsked [] = Unit {0}

@@ -2,7 +2,7 @@
 use Rattle.std.specs.Prelude.{ℕ, ◌==◌, Bool, true, false, Some, None, List, [], ◌∷◌, codes}
 use Rattle.command_words.specs.Words.{Asked, checking, constructing, evaluating, making, matching, repairing, running}
 use Rattle.command_words.specs.Words.{scripting, solving}
-use Rattle.word_laws.specs.Table.{HasNoReading, IsReading}
+use Rattle.command_words.specs.Table.{HasNoReading, IsReading}
 
 -- a byte before words: one in their first, or a blank before it
 abbrev pub put : Bool → ℕ → List (List ℕ) → List (List ℕ)

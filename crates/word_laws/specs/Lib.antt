@@ -1,4 +1,2 @@
-pub mod Commands
 pub mod Examples
 pub mod Outcomes
-pub mod Table

@@ -3,7 +3,7 @@ use Rattle.std.specs.Prelude.{ℕ, ◌≡◌, ◌⊎◌, ◌↔◌, Option, Some
 use Rattle.khe_app.specs.Outcome.{IsOutcome, IsOutcomeOf}
 use Rattle.reading_commands.specs.Lines.{not_understood_line}
 use Rattle.command_words.specs.Words.{Asked}
-use Rattle.word_laws.specs.Table.{HasNoReading, IsReading}
+use Rattle.command_words.specs.Table.{HasNoReading, IsReading}
 
 -- the words ask for something by the table, and this is its outcome
 pub record IsOutcomeOfReading (words : List (List ℕ)) (under : List ℕ → Option (List ℕ)) (status : ℕ) (text : List ℕ) : Type 0 where

@@ -4,7 +4,7 @@
 
 ghost use Rattle.std.specs.Prelude.{[]};
 ghost use Rattle.word_laws.specs.Examples.{AreNotRead, AreRead, checks, constructions, makings, matchings, missing, others, out_of_form, out_of_range, repairs, reports, scripts, solves, twice, unknown};
-ghost use Rattle.word_laws.specs.Table.{HasNoReading};
+ghost use Rattle.command_words.specs.Table.{HasNoReading};
 
 // Each command is read, with its options in any order and its numbers up to the greatest.
 fn each_command_is_read()

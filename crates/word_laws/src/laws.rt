@@ -2,18 +2,6 @@
 #![allow(dead_code)]
 
 ghost use Rattle.word_laws.specs.Outcomes.{OutcomesAreByTable};
-ghost use Rattle.word_laws.specs.Table.{OneReadingAtMost, OthersAreNotRead, WordsAreReadByTable};
-
-// What words are read as is what they ask for by the table, and other words are not read.
-fn words_are_read_by_the_table()
-    ensures read { WordsAreReadByTable }
-    ensures unread { OthersAreNotRead }
-{}
-
-// Words ask for one thing at most by the table.
-fn words_have_one_reading_at_most()
-    ensures { OneReadingAtMost }
-{}
 
 // The outcome of words is that of what they ask for by the table, or the line for words that ask for nothing.
 fn each_outcome_is_that_of_a_reading()

@@ -1,5 +1,5 @@
-//! Laws on the words of the command line: what they ask for is told by a table of commands, and they have one reading
-//! at most. The crate has no code.
+//! A law on the outcomes of words by the table of commands, and lines of words that the table reads or does not. The
+//! crate has no code.
 #![tactic(auto)]
 
 mod examples;

@@ -1,6 +1,6 @@
 -- By the laws on states.
-use Rattle.engine_laws.proofs.SmallLaws.{states_little}
 use Rattle.engine_laws.proofs.laws.states_cost_little.Goals as goal
+use Rattle.khe_engine.proofs.SmallLaws.{states_little}
 
 pub returns : goal.returns
-returns c = states_little
+returns c = λ p s made stands. states_little p s made stands.slots.told stands.groups

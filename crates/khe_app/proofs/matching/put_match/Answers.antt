@@ -1,5 +1,5 @@
 -- The time, then the type, and else what is matched.
-use Rattle.std.proofs.Common.{ℕ, ◌<◌, ◌≤◌, inl, inr, refl, arith, length}
+use Rattle.std.proofs.Common.{◌<◌, ◌≤◌, inl, inr, refl, arith, length}
 use Rattle.archive_reading.specs.Refusals.{refusal_line}
 use Rattle.archive_reading.specs.declared.refusals.Refusal.TheVariants.{NoSuchTime, NoSuchType}
 use Rattle.khe_app.proofs.matching.put_match.Goals as goal

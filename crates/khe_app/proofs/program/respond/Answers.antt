@@ -129,3 +129,60 @@ pub returns-in-None-clause-absent : goal.returns-in-None-clause-absent
 returns-in-None-clause-absent g c sound =
     no_archive (map string_bytes c.args.words.now) None (g.S.Shelf.holdings c.args.shelf.now) c.in-None.ensures.asked
     refl
+
+pub returns-in-Some-Evaluate-clause-needs_no_shelf : goal.returns-in-Some-Evaluate-clause-needs_no_shelf
+returns-in-Some-Evaluate-clause-needs_no_shelf g c = not_unread (asked (map string_bytes c.args.words.now)) _
+    (c.in-Some-Evaluate.ensures.asked ∙ ap (λ (r : Request). Some (asked_of r)) c.in-Some-Evaluate.field-0-is) refl
+
+pub returns-in-Some-Script-clause-needs_no_shelf : goal.returns-in-Some-Script-clause-needs_no_shelf
+returns-in-Some-Script-clause-needs_no_shelf g c = not_unread (asked (map string_bytes c.args.words.now)) _
+    (c.in-Some-Script.ensures.asked ∙ ap (λ (r : Request). Some (asked_of r)) c.in-Some-Script.field-0-is) refl
+
+pub returns-in-Some-Check-clause-needs_no_shelf : goal.returns-in-Some-Check-clause-needs_no_shelf
+returns-in-Some-Check-clause-needs_no_shelf g c = not_unread (asked (map string_bytes c.args.words.now)) _
+    (c.in-Some-Check.ensures.asked ∙ ap (λ (r : Request). Some (asked_of r)) c.in-Some-Check.field-0-is) refl
+
+pub returns-in-Some-Repair-clause-needs_no_shelf : goal.returns-in-Some-Repair-clause-needs_no_shelf
+returns-in-Some-Repair-clause-needs_no_shelf g c = not_unread (asked (map string_bytes c.args.words.now)) _
+    (c.in-Some-Repair.ensures.asked ∙ ap (λ (r : Request). Some (asked_of r)) c.in-Some-Repair.field-0-is) refl
+
+pub returns-in-Some-Solve-clause-needs_no_shelf : goal.returns-in-Some-Solve-clause-needs_no_shelf
+returns-in-Some-Solve-clause-needs_no_shelf g c = not_unread (asked (map string_bytes c.args.words.now)) _
+    (c.in-Some-Solve.ensures.asked ∙ ap (λ (r : Request). Some (asked_of r)) c.in-Some-Solve.field-0-is) refl
+
+pub returns-in-Some-Match-clause-needs_no_shelf : goal.returns-in-Some-Match-clause-needs_no_shelf
+returns-in-Some-Match-clause-needs_no_shelf g c = not_unread (asked (map string_bytes c.args.words.now)) _
+    (c.in-Some-Match.ensures.asked ∙ ap (λ (r : Request). Some (asked_of r)) c.in-Some-Match.field-0-is) refl
+
+pub returns-in-Some-Construct-clause-needs_no_shelf : goal.returns-in-Some-Construct-clause-needs_no_shelf
+returns-in-Some-Construct-clause-needs_no_shelf g c = not_unread (asked (map string_bytes c.args.words.now)) _
+    (c.in-Some-Construct.ensures.asked ∙ ap (λ (r : Request). Some (asked_of r)) c.in-Some-Construct.field-0-is) refl
+
+pub returns-in-Some-Make-clause-needs_no_shelf : goal.returns-in-Some-Make-clause-needs_no_shelf
+returns-in-Some-Make-clause-needs_no_shelf g c none h =
+    let sound = g.S.Shelf.is_sound c.args.shelf.now in
+    let faults = g.S.Shelf.faults c.args.shelf.now in
+    by_words (map string_bytes c.args.words.now) (Some (making c.in-Some-Make.seed c.in-Some-Make.size)) h sound faults
+    faults (g.K.Sink.taken c.args.out.now) (g.K.Sink.taken c.make.new.out) (g.K.Sink.faults c.args.out.now)
+    (g.K.Sink.faults c.make.new.out) c.make.result.0
+    (c.in-Some-Make.ensures.asked ∙ ap (λ (r : Request). Some (asked_of r)) c.in-Some-Make.field-0-is)
+    (c.make.ensures.end h sound faults)
+
+pub returns-in-Some-Run-clause-needs_no_shelf : goal.returns-in-Some-Run-clause-needs_no_shelf
+returns-in-Some-Run-clause-needs_no_shelf g c none h =
+    let sound = g.S.Shelf.is_sound c.args.shelf.now in
+    let faults = g.S.Shelf.faults c.args.shelf.now in
+    by_words (map string_bytes c.args.words.now) (Some (running c.in-Some-Run.seed c.in-Some-Run.size)) h sound faults
+    faults (g.K.Sink.taken c.args.out.now) (g.K.Sink.taken c.make_run.new.out) (g.K.Sink.faults c.args.out.now)
+    (g.K.Sink.faults c.make_run.new.out) c.make_run.result.0
+    (c.in-Some-Run.ensures.asked ∙ ap (λ (r : Request). Some (asked_of r)) c.in-Some-Run.field-0-is)
+    (c.make_run.ensures.end h sound faults)
+
+pub returns-in-None-clause-needs_no_shelf : goal.returns-in-None-clause-needs_no_shelf
+returns-in-None-clause-needs_no_shelf g c none h =
+    let sound = g.S.Shelf.is_sound c.args.shelf.now in
+    let faults = g.S.Shelf.faults c.args.shelf.now in
+    by_words (map string_bytes c.args.words.now) None h sound faults faults (g.K.Sink.taken c.args.out.now)
+    (g.K.Sink.taken c.refuse_words.new.out) (g.K.Sink.faults c.args.out.now)
+    (g.K.Sink.faults c.refuse_words.new.out) c.refuse_words.result.0 c.in-None.ensures.asked
+    (c.refuse_words.ensures.end h sound faults)

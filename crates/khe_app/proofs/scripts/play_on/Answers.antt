@@ -1,5 +1,5 @@
 -- What a run on the engine that was opened wrote.
-use Rattle.std.proofs.Common.{◌≡◌, inr, subst}
+use Rattle.std.proofs.Common.{inr, subst}
 use Rattle.std.specs.Prelude.{OnErr, OnOk, encode_utf8_all}
 use Rattle.edit_script.specs.Lines.{lines}
 use Rattle.khe_io.specs.Faults.{Took, TookFront}

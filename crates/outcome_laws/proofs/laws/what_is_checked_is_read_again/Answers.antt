@@ -1,5 +1,5 @@
 -- By the law on the bytes.
-use Rattle.outcome_laws.proofs.TextLaws.{checks}
+use Rattle.khe_app.proofs.TextLaws.{checks}
 use Rattle.outcome_laws.proofs.laws.what_is_checked_is_read_again.Goals as goal
 
 pub returns : goal.returns

@@ -1,5 +1,5 @@
 -- By the law on the bytes.
-use Rattle.outcome_laws.proofs.TextLaws.{solves}
+use Rattle.khe_app.proofs.TextLaws.{solves}
 use Rattle.outcome_laws.proofs.laws.what_is_solved_costs_no_more.Goals as goal
 
 pub returns : goal.returns

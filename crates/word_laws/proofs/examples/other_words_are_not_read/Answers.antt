@@ -1,7 +1,7 @@
 -- Each line by computing.
 use Rattle.std.proofs.Common.{[], refl}
 use Rattle.word_laws.proofs.ReadExamples.{are_not_read, others_are_not}
-use Rattle.word_laws.proofs.TableLaws.{unread}
+use Rattle.command_words.proofs.TableLaws.{unread}
 use Rattle.word_laws.proofs.examples.other_words_are_not_read.Goals as goal
 use Rattle.word_laws.specs.Examples.{missing, others, out_of_form, out_of_range, twice, unknown}
 

@@ -4,8 +4,8 @@ use Rattle.std.proofs.Common.{length, refl, sym, ap, subst, arith}
 use Rattle.std.proofs.lemmas.Slice.Eq.{bytes_eq-Decides}
 use Rattle.std.specs.Str.{bytes_eq}
 use Rattle.command_words.specs.Words.{value_of}
-use Rattle.word_laws.specs.Commands.{Choice, Said}
-use Rattle.word_laws.specs.Table.{AreGiven, Given, SaysValue, given_words, with_value}
+use Rattle.command_words.specs.Commands.{Choice, Said}
+use Rattle.command_words.specs.Table.{AreGiven, Given, SaysValue, given_words, with_value}
 
 -- each has this
 abbrev pub AllOf : (Given → Type 0) → List Given → Type 0

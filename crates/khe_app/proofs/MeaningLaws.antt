@@ -1,6 +1,6 @@
 -- Each span of a tree that bytes spell stands for what it means by the grammar.
 use Rattle.std.proofs.Common.{ℕ, ◌≡◌, ◌∙◌, sym, ap, Some, List}
-use Rattle.fault_laws.specs.Readings.{IsMeaning, IsValueMeaning, StandsForMeanings}
+use Rattle.khe_app.specs.Readings.{IsMeaning, IsValueMeaning, StandsForMeanings}
 use Rattle.xhstt_text.proofs.MeaningTexts.{unescaped-text, unescaped-value}
 use Rattle.xhstt_text.proofs.SpanTexts.{HasTexts, HasTexts-spelled, attribute_in, element_in}
 use Rattle.xhstt_text.specs.Document.{Spelled}

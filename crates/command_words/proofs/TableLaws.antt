@@ -11,15 +11,15 @@ use Rattle.command_words.specs.Words.{checking, construct_with, constructing, cr
 use Rattle.command_words.specs.Words.{made_by, making, match_with, matching, number_to, options_by, placed_by, repair_with}
 use Rattle.command_words.specs.Words.{repairing, run_by, running, scripted_by, scripting, shares_by, solve_with, solving}
 use Rattle.command_words.specs.Words.{told_by, workers_by, workers_of}
-use Rattle.word_laws.specs.Commands.{Form, Said, any, asks_check, asks_construct, asks_evaluate, asks_make, asks_match}
-use Rattle.word_laws.specs.Commands.{asks_repair, asks_script, asks_solve, below, check, construct, construct_repaired}
-use Rattle.word_laws.specs.Commands.{digits, evaluate, make, match_tasks, number, repair, script, solve, text, tied}
-use Rattle.word_laws.specs.Commands.{up_to}
-use Rattle.word_laws.specs.Table.{AreGiven, Given, HasNoReading, IsOf, IsReading, Say, Says, SaysValue, given_words, with_value}
-use Rattle.word_laws.proofs.GivenLaws.{AllOf, HasValue, words_many}
-use Rattle.word_laws.proofs.NumberLaws.{IsNumber, all_valued, first_number, no_number, number_given}
-use Rattle.word_laws.proofs.NumberLaws.{number_kept, numbers_given, says_number}
-use Rattle.word_laws.proofs.ReadLaws.{all_four, chains, distinct_chains, distinct_four, paired, with_all}
+use Rattle.command_words.specs.Commands.{Form, Said, any, asks_check, asks_construct, asks_evaluate, asks_make, asks_match}
+use Rattle.command_words.specs.Commands.{asks_repair, asks_script, asks_solve, below, check, construct, construct_repaired}
+use Rattle.command_words.specs.Commands.{digits, evaluate, make, match_tasks, number, repair, script, solve, text, tied}
+use Rattle.command_words.specs.Commands.{up_to}
+use Rattle.command_words.specs.Table.{AreGiven, Given, HasNoReading, IsOf, IsReading, Say, Says, SaysValue, given_words, with_value}
+use Rattle.command_words.proofs.GivenLaws.{AllOf, HasValue, words_many}
+use Rattle.command_words.proofs.NumberLaws.{IsNumber, all_valued, first_number, no_number, number_given}
+use Rattle.command_words.proofs.NumberLaws.{number_kept, numbers_given, says_number}
+use Rattle.command_words.proofs.ReadLaws.{all_four, chains, distinct_chains, distinct_four, paired, with_all}
 
 -- the words in order, one after the other
 record IsFirst (form : Form) (forms : List Form) (names : List (List ℕ)) (said : List Said) : Type 0 where

@@ -1,4 +1,4 @@
--- What words ask for is in its bounds: there is a job, and an archive that is run has some events and not too many.
+-- What words ask for is in its bounds: there is a job, and an archive that is made has some events and not too many.
 use Rattle.std.proofs.Common.{ℕ, ◌≡◌, ◌≤◌, refl, Bool, true, false, cond, Option, Some, None, IfSome, List, [], ◌∷◌, arith}
 use Rattle.std.specs.Prelude.{◌&&◌, ◌==◌, codes, length, nat_le}
 use Rattle.std.specs.Option.{option_and_then, option_map}
@@ -22,7 +22,7 @@ IsAskable (repairing archive number depth budget) = Unit {0}
 IsAskable (solving archive number depth budget jobs) = 1 ≤ jobs
 IsAskable (constructing archive number chains) = Unit {0}
 IsAskable (matching archive number time rtype) = Unit {0}
-IsAskable (making seed size) = Unit {0}
+IsAskable (making seed size) = (1 ≤ size) × (size ≤ MADE_EVENTS)
 IsAskable (running seed size) = (1 ≤ size) × (size ≤ MADE_EVENTS)
 
 abbrev Fine : Option Asked → Type 0
@@ -193,7 +193,7 @@ made_fine : (seed size : List ℕ) → Fine (made_by seed size)
 unfolding made_by
 made_fine seed size =
     mapped (λ j. InRange MADE_EVENTS j.1) IsAskable (λ job. making job.0 job.1) (job_by seed size) (job_fine seed size)
-    (λ j h. tt)
+    (λ j h. h)
 
 run_fine : (seed size option : List ℕ) → Fine (run_by seed size option)
 unfolding run_by

@@ -9,15 +9,14 @@ use Rattle.std.proofs.lemmas.List.{get_or-map, get_or_past, length-map}
 use Rattle.std.proofs.lemmas.List.FromFn.{get_or-map-range_with_len, length-map-range_with_len, length-range_with_len}
 use Rattle.std.proofs.lemmas.List.Sums.{sum_by-le}
 use Rattle.std.proofs.lemmas.Option.{get_or_from_slice_get}
-use Rattle.engine_laws.specs.Small.{AreSmall, AreUpTo, AreWithin, CostsLittle}
-use Rattle.engine_laws.specs.Standing.{Stands}
+use Rattle.khe_engine.specs.Small.{AreSmall, AreUpTo, AreWithin, CostsLittle}
 use Rattle.khe_base.proofs.ListLemmas.{all-there, there}
 use Rattle.khe_base.specs.Costs.{cost_of}
 use Rattle.khe_base.specs.declared.limits.TheConstants.{GREATEST_COST, GREATEST_DEVIATION, GREATEST_TOTAL, MONITORS}
 use Rattle.khe_base.specs.declared.numbers.MonitorId.{MonitorId}
-use Rattle.khe_engine.specs.States.{State}
+use Rattle.khe_engine.specs.States.{State, state_of}
 use Rattle.khe_engine.specs.Values as engine
-use Rattle.khe_engine.specs.Values.{deviations_in}
+use Rattle.khe_engine.specs.Values.{HasValues, deviations_in}
 use Rattle.khe_instance.proofs.DeviationBounds.{deviation_small}
 use Rattle.khe_instance.specs.Costs.{cost_at, costs_of, is_hard_at, monitor_cost, totals_among}
 use Rattle.khe_instance.specs.Deviation.{deviation}
@@ -34,11 +33,16 @@ use Rattle.khe_instance.specs.declared.states.Plain.{Plain}
 use Rattle.khe_told.proofs.DutyLaws.{duties_listed}
 use Rattle.khe_told.proofs.FrameLaws.{told_from}
 use Rattle.khe_told.proofs.ValidLaws.{listed_told}
+use Rattle.khe_told.specs.Fits.{AreTold}
 use Rattle.khe_told.specs.Lists.{duties_in, meets_in, tasks_in}
+use Rattle.khe_told.specs.Valid.{AreValid}
+use Rattle.khe_told.specs.declared.slots.Slot.{Slot}
 use Rattle.monitor_graph.proofs.LineLaws.{line_small}
 use Rattle.monitor_graph.proofs.SeatLaws.{few_is}
+use Rattle.monitor_graph.proofs.ValueLaws.{as_many}
+use Rattle.monitor_graph.specs.Boards.{Board}
 use Rattle.monitor_graph.specs.Edits.{is_attached}
-use Rattle.monitor_graph.specs.Groups.{children_at}
+use Rattle.monitor_graph.specs.Groups.{AreGroups, children_at}
 
 -- the deviations of all monitors, of these meets and duties
 deviations_small : (p : Parts) (ms : List Meet) (ds : List Duty) → AreWellMade p → AreOfState p ms ds
@@ -138,10 +142,10 @@ timetables_little p s made told =
     let of : AreOfState p s.meets ds = record { tasks = s.tasks; told = told; same = refl } in
     within p (evaluated.is_detached s) (evaluated.deviations p s) made (deviations_small p s.meets ds made of)
 
-pub states_little : (p : Parts) (s : State) → AreWellMade p → Stands p s → CostsLittle p s
+pub states_little : (p : Parts) (s : State) → AreWellMade p → AreTold p s.slots
+    → AreGroups (length p.monitors) s.grouping.groups → CostsLittle p s
 unfolding deviations_in
-states_little p s made stands =
-    let told = stands.slots.told in
+states_little p s made told are_groups =
     let of : AreOfState p (meets_in s.slots) (duties_in s.slots) =
     record {
       tasks = tasks_in s.slots;
@@ -155,8 +159,15 @@ states_little p s made stands =
       all = all;
       groups = λ g. let xs = children_at s.grouping.groups g in
           let many : length (map (λ (c : MonitorId). c.0) xs) ≡ length xs = length-map xs (λ (c : MonitorId). c.0) in
-          let few = few_is s.grouping.groups (length p.monitors) g stands.groups in
+          let few = few_is s.grouping.groups (length p.monitors) g are_groups in
           let most = made.limits.monitors in
           among_small p (engine.costs p s) (map (λ (c : MonitorId). c.0) xs) all.costs_
           (omega (arith, many, few, most));
     }
+
+-- those of an engine, whose graph has a line for each monitor
+pub engine_little : (p : Parts) (slots : List Slot) (b : Board) → AreWellMade p → AreValid p slots → HasValues p slots b
+    → AreGroups (length b.lines) b.groups → CostsLittle p (state_of slots b)
+engine_little p slots b made valid values groups =
+    states_little p (state_of slots b) made valid.told
+    (subst (λ n. AreGroups n b.groups) (as_many b p values.rates) groups)

@@ -12,10 +12,10 @@ use Rattle.std.proofs.lemmas.Slice.Eq.{bytes_eq-Decides}
 use Rattle.khe_base.specs.Digits.{number_of}
 use Rattle.khe_base.specs.declared.limits.TheConstants.{DIGITS}
 use Rattle.command_words.specs.Words.{number_by, number_to}
-use Rattle.word_laws.specs.Commands.{Choice, Said, must, number, up_to}
-use Rattle.word_laws.specs.Table.{AreGiven, Given, SaysValue, given_words}
-use Rattle.word_laws.proofs.GivenLaws.{AllOf, Fits, HasValue, Lacks, each, found, found_there, left}
-use Rattle.word_laws.proofs.GivenLaws.{are_pairs, one_more, pairs, pairs_valued, passed_over, stands_in, value_found}
+use Rattle.command_words.specs.Commands.{Choice, Said, must, number, up_to}
+use Rattle.command_words.specs.Table.{AreGiven, Given, SaysValue, given_words}
+use Rattle.command_words.proofs.GivenLaws.{AllOf, Fits, HasValue, Lacks, each, found, found_there, left}
+use Rattle.command_words.proofs.GivenLaws.{are_pairs, one_more, pairs, pairs_valued, passed_over, stands_in, value_found}
 
 -- a number in its range, by the digits that write it
 pub record IsNumber (greatest : ℕ) (word : List ℕ) (n : ℕ) : Type 0 where

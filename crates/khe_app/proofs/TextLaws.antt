@@ -14,9 +14,9 @@ use Rattle.text_laws.proofs.RepairedLaws.{read_again, repair_no_dearer, solve_no
 use Rattle.xhstt_resolve.specs.declared.resolving.Resolved.{Resolved}
 use Rattle.xhstt_shape.specs.declared.records.Archive.{Archive}
 use Rattle.xhstt_writer.specs.Archives.{canonical}
-use Rattle.outcome_laws.specs.Texts.{IsCheckOf, IsRepairFrom, IsSolveFrom}
-use Rattle.outcome_laws.proofs.ReadingLaws.{reading_by, spelled_by}
-use Rattle.outcome_laws.proofs.StartLaws.{started_by}
+use Rattle.khe_app.specs.Texts.{IsCheckOf, IsRepairFrom, IsSolveFrom}
+use Rattle.khe_app.proofs.ReadingLaws.{reading_by, spelled_by}
+use Rattle.khe_app.proofs.StartLaws.{started_by}
 
 -- what is checked
 check_of : (bytes text : List ℕ) (a : Archive) (r : Resolved) → IsReadingOf bytes (evaluable a r)
@@ -56,7 +56,7 @@ checks name under text is = checked_by (under name) text is
 -- what is repaired
 repair_of : (number depth budget : ℕ) (bytes text : List ℕ) (a : Archive) (r : Resolved) (s : Start)
     → IsReadingOf bytes (evaluable a r) → start_of a r number ≡ s → IsRepairOf a number depth budget s 0 text
-    → IsRepairFrom number bytes text
+    → IsRepairFrom number bytes (encode_utf8_all text)
 repair_of number depth budget bytes text a r (barred f) is e h = let z = h.0 in absurd (omega (arith, z))
 repair_of number depth budget bytes text a r (begins p plain) is e h =
     let x = started_by a r number p plain e in
@@ -71,26 +71,26 @@ repair_of number depth budget bytes text a r (begins p plain) is e h =
     }
 
 repair_by : (number depth budget : ℕ) (bytes text : List ℕ) (x : Reading) → IsReadingOf bytes x
-    → IsRepairIn number depth budget x 0 text → IsRepairFrom number bytes text
+    → IsRepairIn number depth budget x 0 text → IsRepairFrom number bytes (encode_utf8_all text)
 repair_by number depth budget bytes text (evaluable a r) is h =
     repair_of number depth budget bytes text a r (start_of a r number) is refl h
 repair_by number depth budget bytes text (refused f) is h = let z = h.0 in absurd (omega (arith, z))
 
 repaired_by : (number depth budget : ℕ) (o : Option (List ℕ)) (text : List ℕ) → IsRepairTo number depth budget o 0 text
-    → (bytes : List ℕ) × (o ≡ Some bytes) × IsRepairFrom number bytes text
+    → (bytes : List ℕ) × (o ≡ Some bytes) × IsRepairFrom number bytes (encode_utf8_all text)
 repaired_by number depth budget None text is = let s = is.0 in absurd (omega (arith, s))
 repaired_by number depth budget (Some bytes) text is =
     (bytes, refl, repair_by number depth budget bytes text is.reading is.is is.repaired)
 
 pub repairs : (name : List ℕ) (number depth budget : ℕ) (under : List ℕ → Option (List ℕ)) (text : List ℕ)
     → IsOutcomeOf (Some (repairing name number depth budget)) under 0 text
-    → (bytes : List ℕ) × (under name ≡ Some bytes) × IsRepairFrom number bytes text
+    → (bytes : List ℕ) × (under name ≡ Some bytes) × IsRepairFrom number bytes (encode_utf8_all text)
 repairs name number depth budget under text is = repaired_by number depth budget (under name) text is
 
 -- what is solved
 solve_of : (number depth budget jobs : ℕ) (bytes text : List ℕ) (a : Archive) (r : Resolved) (s : Start)
     → IsReadingOf bytes (evaluable a r) → start_of a r number ≡ s → IsSolveOf a number depth budget jobs s 0 text
-    → IsSolveFrom number jobs bytes text
+    → IsSolveFrom number jobs bytes (encode_utf8_all text)
 solve_of number depth budget jobs bytes text a r (barred f) is e h = let z = h.0 in absurd (omega (arith, z))
 solve_of number depth budget jobs bytes text a r (begins p plain) is e h =
     let x = started_by a r number p plain e in
@@ -105,19 +105,19 @@ solve_of number depth budget jobs bytes text a r (begins p plain) is e h =
     }
 
 solve_by : (number depth budget jobs : ℕ) (bytes text : List ℕ) (x : Reading) → IsReadingOf bytes x
-    → IsSolveIn number depth budget jobs x 0 text → IsSolveFrom number jobs bytes text
+    → IsSolveIn number depth budget jobs x 0 text → IsSolveFrom number jobs bytes (encode_utf8_all text)
 solve_by number depth budget jobs bytes text (evaluable a r) is h =
     solve_of number depth budget jobs bytes text a r (start_of a r number) is refl h
 solve_by number depth budget jobs bytes text (refused f) is h = let z = h.0 in absurd (omega (arith, z))
 
 solved_by : (number depth budget jobs : ℕ) (o : Option (List ℕ)) (text : List ℕ)
     → IsSolveTo number depth budget jobs o 0 text
-    → (bytes : List ℕ) × (o ≡ Some bytes) × IsSolveFrom number jobs bytes text
+    → (bytes : List ℕ) × (o ≡ Some bytes) × IsSolveFrom number jobs bytes (encode_utf8_all text)
 solved_by number depth budget jobs None text is = let s = is.0 in absurd (omega (arith, s))
 solved_by number depth budget jobs (Some bytes) text is =
     (bytes, refl, solve_by number depth budget jobs bytes text is.reading is.is is.solved)
 
 pub solves : (name : List ℕ) (number depth budget jobs : ℕ) (under : List ℕ → Option (List ℕ)) (text : List ℕ)
     → IsOutcomeOf (Some (solving name number depth budget jobs)) under 0 text
-    → (bytes : List ℕ) × (under name ≡ Some bytes) × IsSolveFrom number jobs bytes text
+    → (bytes : List ℕ) × (under name ≡ Some bytes) × IsSolveFrom number jobs bytes (encode_utf8_all text)
 solves name number depth budget jobs under text is = solved_by number depth budget jobs (under name) text is

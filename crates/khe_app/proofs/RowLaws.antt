@@ -1,8 +1,8 @@
 -- Readings by the machines and by the rows are the same.
 use Rattle.std.proofs.Common.{ℕ, ◌≡◌, ◌≤◌, ◌∙◌, inl, inr, List, length, ap₂, arith}
 use Rattle.khe_base.specs.declared.limits.TheConstants.{ARCHIVE_BYTES}
-use Rattle.fault_laws.proofs.MeaningLaws.{stands_for_meanings}
-use Rattle.fault_laws.specs.Readings.{IsReadingByRows}
+use Rattle.khe_app.proofs.MeaningLaws.{stands_for_meanings}
+use Rattle.khe_app.specs.Readings.{IsReadingByRows}
 use Rattle.text_fault_laws.proofs.FirstRow.{first_least, least_first}
 use Rattle.text_fault_laws.specs.Rows.{IsLeastFault}
 use Rattle.archive_reading.specs.Reading.{IsReadingOf, Reading, refused}

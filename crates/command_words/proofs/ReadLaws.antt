@@ -15,11 +15,11 @@ use Rattle.command_words.specs.Words.{evaluating, job_by, jobs_by, made_by, make
 use Rattle.command_words.specs.Words.{number_to, options_by, placed_by, repair_by, repair_with, repairing, run_by}
 use Rattle.command_words.specs.Words.{running, script_by, scripted_by, scripting, shares_by, solve_by, solve_with, solving}
 use Rattle.command_words.specs.Words.{told_by, workers_by, workers_of}
-use Rattle.word_laws.specs.Commands.{Said, asks_evaluate, check, construct, construct_repaired, evaluate, flag}
-use Rattle.word_laws.specs.Commands.{make, match_tasks, number, repair, scripted, solve, text}
-use Rattle.word_laws.specs.Table.{AreGiven, Given, HasNoReading, IsOf, IsReading, given_words}
-use Rattle.word_laws.proofs.NumberLaws.{AreDistinct, IsNumber, Must, Spells, in_pairs}
-use Rattle.word_laws.proofs.NumberLaws.{number_read, spells}
+use Rattle.command_words.specs.Commands.{Said, asks_evaluate, check, construct, construct_repaired, evaluate, flag}
+use Rattle.command_words.specs.Commands.{make, match_tasks, number, repair, scripted, solve, text}
+use Rattle.command_words.specs.Table.{AreGiven, Given, HasNoReading, IsOf, IsReading, given_words}
+use Rattle.command_words.proofs.NumberLaws.{AreDistinct, IsNumber, Must, Spells, in_pairs}
+use Rattle.command_words.proofs.NumberLaws.{number_read, spells}
 
 -- a choice, and a value that is made of another
 chosen : {A : Type 0} (P : Type 0) (b : Bool) (x y : Option A) (a : A) → cond b x y ≡ Some a
