@@ -12,5 +12,6 @@ pub mod RoundLaws
 pub mod RunLaws
 pub mod SearchLaws
 pub mod SettledLaws
+pub mod StuckLaws
 pub mod SweepLaws
 mod WalkLaws

@@ -1,5 +1,5 @@
 -- Looking at the chains of one defect after another.
-use Rattle.std.proofs.Common.{ℕ, ◌≡◌, List, [], ◌∷◌, ap, ◌∙◌, sym, subst}
+use Rattle.std.proofs.Common.{ℕ, ◌≡◌, List, [], ◌++◌, ap, ◌∙◌, sym}
 use Rattle.std.specs.List.{flat_map}
 use Rattle.khe_base.specs.declared.sums.Totals.{Totals}
 use Rattle.khe_engine.specs.States.{State}
@@ -30,22 +30,6 @@ chains_begun w t r v k marked moved round =
     ∙ ap (λ m. flat_map (extensions w.parts m v k (f [])) (rotated v (defects_from (costs_at w.parts w.state) 0)))
     marked
 
--- the next defect, in the world where the walk began
-pub next_defect_back : (w u : World) (r r' : DefectRound) (m : ℕ) → IsBack w u
-    → defects_ahead (costs_at u.parts u.state) r ≡ m ∷ defects_ahead (costs_at u.parts u.state) r'
-    → defects_ahead (costs_at w.parts w.state) r ≡ m ∷ defects_ahead (costs_at w.parts w.state) r'
-next_defect_back w u r r' m back h =
-    let e : costs_at u.parts u.state ≡ costs_at w.parts w.state =
-    ap (λ q. costs_at q u.state) back.parts ∙ ap (λ s. costs_at w.parts s) back.state in
-    let P : List ℕ → Type 0 = λ cs. defects_ahead cs r ≡ m ∷ defects_ahead cs r' in subst P e h
-
-pub no_defect_back : (w u : World) (r : DefectRound) → IsBack w u → defects_ahead (costs_at u.parts u.state) r ≡ []
-    → defects_ahead (costs_at w.parts w.state) r ≡ []
-no_defect_back w u r back h =
-    let e : costs_at u.parts u.state ≡ costs_at w.parts w.state =
-    ap (λ q. costs_at q u.state) back.parts ∙ ap (λ s. costs_at w.parts s) back.state in
-    let P : List ℕ → Type 0 = λ cs. defects_ahead cs r ≡ [] in subst P e h
-
 -- what was looked at from a world that is back
 look_back : (w u : World) (t : Trail) (v k m n : ℕ) (lowest : Totals) (l : Looking) → IsBack w u
     → look u.parts lowest n (extensions u.parts u.marked v k (chain_at t u) m) ≡ l
@@ -57,31 +41,34 @@ look_back w u t v k m n lowest l back h =
     ∙ ap (λ q. look q lowest n (extensions q u.marked v k (chain_at t u) m)) (sym back.parts) ∙ h
 
 pub sweep_through : (w u : World) (t : Trail) (v k m n n' : ℕ) (ms all : List ℕ) (lowest : Totals) → IsBack w u
-    → all ≡ m ∷ ms
+    → flat_map (extensions w.parts w.marked v k (chain_at t w)) all
+    ≡ extensions w.parts w.marked v k (chain_at t w) m ++ flat_map (extensions w.parts w.marked v k (chain_at t w)) ms
     → look u.parts lowest n (extensions u.parts u.marked v k (chain_at t u) m) ≡ through n'
     → look w.parts lowest n (flat_map (extensions w.parts w.marked v k (chain_at t w)) all)
     ≡ look w.parts lowest n' (flat_map (extensions w.parts w.marked v k (chain_at t w)) ms)
 sweep_through w u t v k m n n' ms all lowest back eq h =
-    ap (λ ds. look w.parts lowest n (flat_map (extensions w.parts w.marked v k (chain_at t w)) ds)) eq
+    ap (look w.parts lowest n) eq
     ∙ look_through w.parts lowest n n' _ _ (look_back w u t v k m n lowest _ back h)
 
 pub sweep_found : (w u : World) (t : Trail) (v k m n n' : ℕ) (s : State) (ms all : List ℕ) (lowest : Totals)
-    → IsBack w u → all ≡ m ∷ ms
+    → IsBack w u → flat_map (extensions w.parts w.marked v k (chain_at t w)) all
+    ≡ extensions w.parts w.marked v k (chain_at t w) m ++ flat_map (extensions w.parts w.marked v k (chain_at t w)) ms
     → look u.parts lowest n (extensions u.parts u.marked v k (chain_at t u) m) ≡ found s n'
     → look w.parts lowest n (flat_map (extensions w.parts w.marked v k (chain_at t w)) all) ≡ found s n'
 sweep_found w u t v k m n n' s ms all lowest back eq h =
-    ap (λ ds. look w.parts lowest n (flat_map (extensions w.parts w.marked v k (chain_at t w)) ds)) eq
+    ap (look w.parts lowest n) eq
     ∙ look_found w.parts lowest n n' s _ _ (look_back w u t v k m n lowest _ back h)
 
 pub sweep_spent : (w u : World) (t : Trail) (v k m n : ℕ) (ms all : List ℕ) (lowest : Totals) → IsBack w u
-    → all ≡ m ∷ ms
+    → flat_map (extensions w.parts w.marked v k (chain_at t w)) all
+    ≡ extensions w.parts w.marked v k (chain_at t w) m ++ flat_map (extensions w.parts w.marked v k (chain_at t w)) ms
     → look u.parts lowest n (extensions u.parts u.marked v k (chain_at t u) m) ≡ spent
     → look w.parts lowest n (flat_map (extensions w.parts w.marked v k (chain_at t w)) all) ≡ spent
 sweep_spent w u t v k m n ms all lowest back eq h =
-    ap (λ ds. look w.parts lowest n (flat_map (extensions w.parts w.marked v k (chain_at t w)) ds)) eq
+    ap (look w.parts lowest n) eq
     ∙ look_spent w.parts lowest n _ _ (look_back w u t v k m n lowest _ back h)
 
-pub sweep_done : (w : World) (t : Trail) (v k n : ℕ) (all : List ℕ) (lowest : Totals) → all ≡ []
+pub sweep_done : (w : World) (t : Trail) (v k n : ℕ) (all : List ℕ) (lowest : Totals)
+    → flat_map (extensions w.parts w.marked v k (chain_at t w)) all ≡ []
     → look w.parts lowest n (flat_map (extensions w.parts w.marked v k (chain_at t w)) all) ≡ through n
-sweep_done w t v k n all lowest e = look_nothing w.parts lowest n _
-    (ap (flat_map (extensions w.parts w.marked v k (chain_at t w))) e)
+sweep_done w t v k n all lowest e = look_nothing w.parts lowest n _ e

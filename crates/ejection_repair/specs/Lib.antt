@@ -7,5 +7,6 @@ pub mod Looks
 pub mod Repaired
 pub mod Rounds
 pub mod Settled
+pub mod Stuck
 pub mod Trails
 pub mod Values

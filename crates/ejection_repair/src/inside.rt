@@ -9,6 +9,7 @@ use crate::asks::{compare_from_here, totals_of};
 use crate::looked::Aim;
 use crate::outcome::{Outcome, Round};
 use crate::repairing::round;
+use crate::spans::Spans;
 use khe_base::NoMemory;
 use khe_base::limits::MARKS;
 use khe_engine::Engine;
@@ -40,6 +41,7 @@ pub fn repair_inside<F: Family, L: Ledger>(
     ensures saved { states engine.new.saved ≡ states engine.old.saved }
 {
     let spare_marks = marks_beside(engine, depth);
+    let mut spans = Spans::new();
     let mut left = budget;
     let mut accepted = 0;
     while accepted <= budget {
@@ -50,7 +52,7 @@ pub fn repair_inside<F: Family, L: Ledger>(
             diversifier,
             spare_marks,
         };
-        match round(engine, &aim, depth, &mut left, steps) {
+        match round(engine, &aim, &mut spans, depth, &mut left, steps) {
             Round::Settled => {
                 let tried = budget - left;
                 return Ok(Outcome::Done { accepted, tried });

@@ -16,6 +16,7 @@ mod repairing;
 mod rotating;
 mod rounds;
 mod searching;
+mod spans;
 mod sweeping;
 mod trails;
 

@@ -6,11 +6,13 @@ ghost use Rattle.ejection_repair.specs.Bounds.{most_moves, IsWithin};
 ghost use Rattle.ejection_repair.specs.Kept.{IsKept, room};
 ghost use Rattle.ejection_repair.specs.Repaired.{repaired, Goes};
 ghost use Rattle.ejection_repair.specs.Settled.{HasTried, IsNoWorse, IsReached, IsSettled, StopsBelow, accepted_of, settled_to};
+ghost use Rattle.ejection_repair.specs.Stuck.{AreStuckSpans};
 ghost use Rattle.ejection_repair.specs.Values.{costs_at, totals_at};
 
 use crate::asks::{compare_from_here, totals_of};
 use crate::looked::{Aim, Looked};
 use crate::outcome::{Outcome, Round};
+use crate::spans::Spans;
 use crate::sweeping::sweep;
 use khe_base::NoMemory;
 use khe_engine::Engine;
@@ -34,7 +36,8 @@ use std::sync::ledger::Ledger;
 /// move's changes, twice. Where last moves that follow one another put the same meet elsewhere, or
 /// give the same task to others, it is lifted once for up to 64 of them: each then takes the time of
 /// its second change alone, twice. A chain that is taken is made once. Where the diversifier isn't 0,
-/// a list is gone past to the place where it is begun.
+/// a list is gone past to the place where it is begun. Defects that are stuck, as `is_stuck` says, are
+/// left out: those whose numbers follow one another are gone past at once from the second time on.
 pub fn repair<F: Family, L: Ledger>(
     engine: &mut Engine<'_, F>,
     depth: u32,
@@ -70,21 +73,24 @@ pub fn repair<F: Family, L: Ledger>(
 pub(crate) fn round<F: Family, L: Ledger>(
     engine: &mut Engine<'_, F>,
     aim: &Aim,
+    spans: &mut Spans,
     depth: u32,
     left: &mut u64,
     steps: &mut Steps<L>,
 ) -> Round
     requires marked { engine.old.marked ≡ costs_at engine.old.parts engine.old.state }
     requires lowest { aim.now.lowest ≡ totals_at engine.old.parts engine.old.state }
+    requires spans { AreStuckSpans engine.old.parts spans.old }
     requires depth { depth ≤ CHAIN_MOVES }
     requires marks { length engine.old.saved + depth + aim.now.spare_marks ≤ MARKS }
     requires room { depth + aim.now.spare_marks ≤ engine.old.spare }
     ensures goes { Goes result depth aim.now.diversifier engine.old engine.new left.old left.new }
     ensures kept { IsKept engine.old engine.new }
     ensures room { room engine.old ≤ room engine.new }
+    ensures spans { AreStuckSpans engine.old.parts spans.new }
 {
     for gone in 0..depth {
-        match sweep(engine, aim, gone + 1, left, steps) {
+        match sweep(engine, aim, spans, gone + 1, left, steps) {
             Looked::Through => {}
             Looked::Found => return Round::Taken,
             Looked::Spent => return Round::Spent(gone),
@@ -114,6 +120,7 @@ fn repair_exactly<F: Family, L: Ledger>(
     ensures refused { OnErr result ((engine.new.state ≡ engine.old.state) × (engine.new.marked ≡ engine.old.marked)) }
 {
     engine.reserve(depth + 1)?;
+    let mut spans = Spans::new();
     let mut left = budget;
     let mut accepted = 0;
     while accepted <= budget {
@@ -123,7 +130,7 @@ fn repair_exactly<F: Family, L: Ledger>(
             diversifier,
             spare_marks: 1,
         };
-        match round(engine, &aim, depth, &mut left, steps) {
+        match round(engine, &aim, &mut spans, depth, &mut left, steps) {
             Round::Settled => {
                 let tried = budget - left;
                 return Ok(Outcome::Done { accepted, tried });

@@ -24,10 +24,10 @@ use Rattle.khe_told.specs.declared.edits.Edit.TheVariants.{SwapTasks}
 use Rattle.khe_told.specs.declared.refusals.Refusal.{Refusal}
 use Rattle.khe_told.specs.declared.slots.Slot.{Slot}
 use Rattle.khe_solution.specs.Reading.{has_place, has_type, is_fixed_event, is_fixed_place, is_placed, is_time}
-use Rattle.khe_solution.specs.Reading.{resource_at}
+use Rattle.khe_solution.specs.Reading.{may_have, resource_at}
 use Rattle.khe_solution.specs.Refusing.{assign_row, first_refusal, give_row, merge_row, move_row, refusal, regive_row}
 use Rattle.khe_solution.specs.Refusing.{split_row, swap_meets_row, swap_tasks_row}
-use Rattle.khe_solution.proofs.Basics.{AllPass, no_value, not-false, passed, true-false}
+use Rattle.khe_solution.proofs.Basics.{AllPass, no_value, not-false, not_none, passed, true-false}
 use Rattle.repair_moves.specs.Items.{is_live_at, task_at}
 use Rattle.repair_moves.specs.Moves.{choices, edit_of, is_accepted, is_choice, resource_of, task_move}
 use Rattle.repair_moves.specs.declared.parts.Part.TheVariants.{TimeMoves, SwapMoves, Cuts, Joins, TaskMoves, TradeMoves}
@@ -201,6 +201,26 @@ trade_other p s point n k h =
     let a = passed (swap_tasks_row p s (task_at p n) (task_at p k))
     (none_is (refusal p s (SwapTasks (task_at p n) (task_at p k))) h) in
     not-false _ a.1.0
+
+-- a task can only be given what another has where that has the type of its place
+trade_first : (p : Parts) (s : List Slot) (point : Point) (n k : ℕ) → is_choice p s point TradeMoves n k ≡ true
+    → (r : ResourceId) × (has_type p r.0 (place_at p.events (slot_at s (task_at p n).meet.0).event.0
+    (task_at p n).place) ≡ true)
+unfolding is_accepted edit_of refusal
+trade_first p s point n k h =
+    let a = passed (swap_tasks_row p s (task_at p n) (task_at p k))
+    (none_is (refusal p s (SwapTasks (task_at p n) (task_at p k))) h) in
+    let given = not_none (given_at (slot_at s (task_at p k).meet.0) (task_at p k).place) a.1.1.1.1.1.0 in
+    let here = place_at p.events (slot_at s (task_at p n).meet.0).event.0 (task_at p n).place in (
+      given.0,
+      ap (λ o. may_have p o here) (sym given.1) ∙ not-false _ a.1.1.1.1.1.1.1.1.0,
+    )
+
+pub trade_typed : (p : Parts) (s : List Slot) (point : Point) (n k : ℕ)
+    → ((r : ℕ) → has_type p r (place_at p.events (slot_at s (task_at p n).meet.0).event.0 (task_at p n).place) ≡ false)
+    → is_choice p s point TradeMoves n k ≡ false
+trade_typed p s point n k h = false_unless _ (λ t.
+    (let first = trade_first p s point n k t in true-false (sym first.1 ∙ h first.0.0)))
 
 -- why a choice is no move
 pub time_dead : (p : Parts) (s : List Slot) (point : Point) (n k : ℕ) → is_live (slot_at s n) ≡ false

@@ -4,5 +4,6 @@ pub mod LiveTasks
 pub mod ListLaws
 pub mod PickedLaws
 pub mod SlotLaws
+pub mod StuckLaws
 pub mod TaskLaws
 pub mod WalkLaws

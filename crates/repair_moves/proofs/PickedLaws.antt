@@ -9,15 +9,15 @@ range_some : (from to : ℕ) → from < to → range_with_len from (to - from)
     ≡ from ∷ range_with_len (from + 1) (to - (from + 1))
 range_some from to l = ap (range_with_len from) (let e : to - from ≡ suc (to - (from + 1)) = omega (arith, l) in e)
 
-picked_none : (test : ℕ → Bool) (from to : ℕ) → to ≤ from → picked test from to ≡ []
+pub picked_none : (test : ℕ → Bool) (from to : ℕ) → to ≤ from → picked test from to ≡ []
 unfolding picked
 picked_none test from to l = ap (filter test) (ap (range_with_len from) (let e : to - from ≡ 0 = omega (arith, l) in e))
 
 -- a number of the range is picked or is not
-step : (test : ℕ → Bool) (from to : ℕ) (b : Bool) → from < to → test from ≡ b
+pub picked_step : (test : ℕ → Bool) (from to : ℕ) (b : Bool) → from < to → test from ≡ b
     → picked test from to ≡ cond b (from ∷ picked test (from + 1) to) (picked test (from + 1) to)
 unfolding picked
-step test from to b l h =
+picked_step test from to b l h =
     let rest = filter test (range_with_len (from + 1) (to - (from + 1))) in
     ap (filter test) (range_some from to l) ∙ ap (λ b. cond b (from ∷ rest) rest) h
 
@@ -27,7 +27,7 @@ jump : (test : ℕ → Bool) (gap from to : ℕ) → from + gap ≤ to → NoneP
 jump test zero from to l none = ap (λ k. picked test k to) (let e : from ≡ from + 0 = omega arith in e)
 jump test (suc gap) from to l none =
     let e : from + 1 + gap ≡ from + suc gap = omega arith in
-    step test from to false (omega (arith, l)) (none from (omega arith) (omega arith))
+    picked_step test from to false (omega (arith, l)) (none from (omega arith) (omega arith))
     ∙ jump test gap (from + 1) to (omega (arith, l)) (λ k a b. none k (omega (arith, a)) (omega (arith, b)))
     ∙ ap (λ k. picked test k to) e
 
@@ -45,7 +45,7 @@ first_picked test from to (Some n) h =
     let b = h.1 in
     let e : from + (n - from) ≡ n = omega (arith, a) in
     jump test (n - from) from to (omega (arith, a, b)) (λ k x y. h.3 k x (omega (arith, y, a)))
-    ∙ ap (λ k. picked test k to) e ∙ step test n to true b h.2
+    ∙ ap (λ k. picked test k to) e ∙ picked_step test n to true b h.2
 
 -- a test that cannot hold is false
 pub false_unless : (b : Bool) → (b ≡ true → ⊥) → b ≡ false

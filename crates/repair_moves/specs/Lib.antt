@@ -5,6 +5,7 @@ pub mod Moved
 pub mod Moves
 pub mod Named
 pub mod Picked
+pub mod Stuck
 pub mod Table
 pub mod Tasks
 pub mod Walks

@@ -10,9 +10,11 @@ mod laws;
 mod moved;
 mod parts;
 mod reads;
+mod stuck;
 mod walking;
 
 pub use cursors::{Cursor, Spot};
 pub use moved::Moved;
 pub use parts::Part;
+pub use stuck::is_stuck;
 pub use walking::{moves, next_move};

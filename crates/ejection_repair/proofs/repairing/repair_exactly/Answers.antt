@@ -7,6 +7,7 @@ loop-accepted-init g c =
     let e = c.in_ok-reserve.ensures in
     record {
       parts = e.parts;
+      spans = c.new-spans.ensures c.args.engine.now.parts;
       saved = e.saved ∙ c.requires.marks;
       room = e.ok;
       spare = e.kept;

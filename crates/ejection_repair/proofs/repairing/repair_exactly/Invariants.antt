@@ -1,5 +1,6 @@
 use Rattle.std.proofs.Common.{◌≡◌, ◌≤◌, ◌+◌, ◌-◌, []}
 use Rattle.ejection_repair.specs.Repaired.{runs_from, repaired}
+use Rattle.ejection_repair.specs.Stuck.{AreStuckSpans}
 use Rattle.ejection_repair.proofs.repairing.repair_exactly.Given as goal
 
 abbrev pub invariant-loop-accepted : goal.invariant-loop-accepted
@@ -7,6 +8,7 @@ invariant-loop-accepted g l =
     let w = l.fn.engine in
     record {
       parts : l.engine.parts ≡ w.parts;
+      spans : AreStuckSpans w.parts l.spans;
       saved : l.engine.saved ≡ [];
       room : l.depth + 1 ≤ l.engine.spare;
       spare : w.spare ≤ l.engine.spare;

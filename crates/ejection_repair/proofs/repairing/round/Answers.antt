@@ -1,5 +1,7 @@
-use Rattle.std.proofs.Common.{◌∙◌}
+use Rattle.std.proofs.Common.{subst, ◌∙◌}
+use Rattle.khe_instance.specs.declared.parts.Parts.{Parts}
 use Rattle.ejection_repair.specs.Repaired.{runs_from}
+use Rattle.ejection_repair.specs.Stuck.{AreStuckSpans}
 use Rattle.ejection_repair.proofs.SearchLaws as search
 use Rattle.ejection_repair.proofs.RunLaws as runs
 use Rattle.ejection_repair.proofs.repairing.round.Goals as goal
@@ -14,6 +16,7 @@ loop-gone-preserved g c =
     c.requires.lowest e.looks.0 i.fewer c.loop-gone-test.true i.runs in
     record {
       back = search.back_again w u c.sweep.new.engine i.back e.kept e.room e.looks.1 e.looks.2;
+      spans = let P : Parts → Type 0 = λ q. AreStuckSpans q c.sweep.new.spans in subst P i.back.parts e.spans;
       fewer = r.0;
       runs = r.1;
     }
