@@ -1,3 +1,5 @@
+pub mod CutLaws
+pub mod EffectLaws
 pub mod KeeperLaws
 pub mod Listing
 pub mod PostLaws

@@ -93,7 +93,7 @@ apart_from k j rest fresh h n = true≢false (sym h ∙ ap (has rest) (sym n) �
 or_more : (k j : ℕ) (rest : List ℕ) → (k ≡ j → ⊥) → has rest j ≡ true → has (k ∷ rest) j ≡ true
 or_more k j rest n h = (λ i. ne_eqb k j n i || h i)
 
-or_less : (k j : ℕ) (rest : List ℕ) → has rest j ≡ false → (k ≡ j → ⊥) → has (k ∷ rest) j ≡ false
+pub or_less : (k j : ℕ) (rest : List ℕ) → has rest j ≡ false → (k ≡ j → ⊥) → has (k ∷ rest) j ≡ false
 or_less k j rest h n = (λ i. ne_eqb k j n i || h i)
 
 -- gauges of which some are turned

@@ -2,6 +2,7 @@ pub mod AssignResource
 pub mod AssignTime
 pub mod DistributeSplitEvents
 pub mod DutySums
+pub mod Effects
 pub mod Lists
 pub mod MeetSums
 pub mod OneOfs

@@ -24,8 +24,26 @@ module _ {A B : Type 0} (value_a : A → Parts → Monitor → ℕ) (value_b : B
   value_one (First g) p m = value_a g p m
   value_one (Second g) p m = value_b g p m
 
+module _ {A B : Type 0} (same_a : A → Parts → Monitor → SlotTurn → Type 0)
+    (same_b : B → Parts → Monitor → SlotTurn → Type 0) where
+  -- and is left by what leaves its sort
+  abbrev pub unaffected_in : OneOf A B → Parts → Monitor → SlotTurn → Type 0
+  unaffected_in (First g) p m t = same_a g p m t
+  unaffected_in (Second g) p m t = same_b g p m t
+
 module _ {A B : Type 0} (keeps_a : A → Parts → Monitor → List Slot → Type 0)
     (keeps_b : B → Parts → Monitor → List Slot → Type 0) where
+  pub unaffected_one : (same_a : A → Parts → Monitor → SlotTurn → Type 0)
+      (same_b : B → Parts → Monitor → SlotTurn → Type 0)
+      → ((g : A) (p : Parts) (m : Monitor) (s : List Slot) (t : SlotTurn) → same_a g p m t → IsTurn p s t
+      → keeps_a g p m s → keeps_a g p m (turned s t))
+      → ((g : B) (p : Parts) (m : Monitor) (s : List Slot) (t : SlotTurn) → same_b g p m t → IsTurn p s t
+      → keeps_b g p m s → keeps_b g p m (turned s t))
+      → (g : OneOf A B) (p : Parts) (m : Monitor) (s : List Slot) (t : SlotTurn) → unaffected_in same_a same_b g p m t
+      → IsTurn p s t → keeps_one keeps_a keeps_b g p m s → keeps_one keeps_a keeps_b g p m (turned s t)
+  unaffected_one same_a same_b a b (First g) p m s t h turns kept = a g p m s t h turns kept
+  unaffected_one same_a same_b a b (Second g) p m s t h turns kept = b g p m s t h turns kept
+
   pub exact_one : (value_a : A → Parts → Monitor → ℕ) (value_b : B → Parts → Monitor → ℕ)
       → ((g : A) (p : Parts) (m : Monitor) (s : List Slot) → keeps_a g p m s → deviation_in p s m ≡ value_a g p m)
       → ((g : B) (p : Parts) (m : Monitor) (s : List Slot) → keeps_b g p m s → deviation_in p s m ≡ value_b g p m)

@@ -24,8 +24,8 @@ use Rattle.khe_told.specs.Turns.{IsTurn, SlotTurn, turned}
 use Rattle.khe_told.specs.declared.slots.Slot.{Slot}
 use Rattle.khe_told.specs.declared.slots.Span.{Span}
 use Rattle.event_monitors.specs.Posts.{names}
-use Rattle.event_monitors.specs.Shares.{KeepsDuration, KeepsMeet, KeepsTasks, given_at, measured_by, most_of}
-use Rattle.event_monitors.specs.Shares.{share_of, span_share, task_share, total_at, total_of}
+use Rattle.event_monitors.specs.Shares.{AddsUp, IsSameShare, KeepsDuration, KeepsMeet, KeepsTasks, given_at}
+use Rattle.event_monitors.specs.Shares.{measured_by, most_of, share_of, span_share, task_share, total_at, total_of}
 
 -- a rule of a kind's number is one of the kind
 pub rule_of_kind : (k : Kind) (r : Rule) → is_kind (kind_of r) k ≡ true → IsOfKind k r
@@ -112,6 +112,19 @@ module _ (share : Rule → Option Span → Option (Option ResourceId) → ℕ) w
           ≡ option_map_or (λ (k : Constraint). total_at share p k.rule m.point s) o 0
       by None = refl
       by (Some k) = sum_unheard p k.rule m.point s t turns (same k.rule m.point)
+
+  -- so does one that leaves it in the sum of the monitor alone
+  pub total_unaffected : (p : Parts) (m : Monitor) (s : List Slot) (t : SlotTurn) (total : ℕ) → IsTurn p s t
+      → IsSameShare share p m t → total ≡ total_of share p m s → total ≡ total_of share p m (turned s t)
+  total_unaffected p m s t total turns same h = h ∙ sym (by (slice_get p.constraints m.constraint) same)
+    where
+      by : (o : Option Constraint) → ((c : Constraint) → o ≡ Some c
+          → share c.rule t.after.span (given_at m.point t.after.given)
+          ≡ share c.rule t.before.span (given_at m.point t.before.given))
+          → option_map_or (λ (k : Constraint). total_at share p k.rule m.point (turned s t)) o 0
+          ≡ option_map_or (λ (k : Constraint). total_at share p k.rule m.point s) o 0
+      by None same = refl
+      by (Some k) same = sum_unheard p k.rule m.point s t turns (same k refl)
 
   share_none : (p : Parts) (rule : Rule) (point : Point) (x : Slot) → names_event p rule point x.event.0 ≡ false
       → share_of share p rule point x ≡ 0

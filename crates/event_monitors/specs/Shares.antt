@@ -2,7 +2,7 @@
 -- the sum.
 use Rattle.std.specs.Prelude.{ℕ, ◌≡◌, ◌+◌, ◌*◌, if◌then◌else◌, Option, Some, None, List, slice_get}
 use Rattle.std.specs.List.{sum_by}
-use Rattle.std.specs.Option.{option_map_or}
+use Rattle.std.specs.Option.{option_map, option_map_or}
 use Rattle.khe_base.specs.declared.limits.TheConstants.{DURATION, NUMBER}
 use Rattle.khe_base.specs.declared.numbers.ResourceId.{ResourceId}
 use Rattle.khe_base.specs.declared.numbers.TimeId.{TimeId}
@@ -11,6 +11,7 @@ use Rattle.khe_instance.specs.declared.parts.Parts.{Parts}
 use Rattle.khe_instance.specs.declared.points.Monitor.{Monitor}
 use Rattle.khe_instance.specs.declared.points.Point.{Point}
 use Rattle.khe_instance.specs.declared.points.Point.TheVariants.{EventResource}
+use Rattle.khe_instance.specs.declared.rules.Constraint.{Constraint}
 use Rattle.khe_instance.specs.declared.rules.Rule.{Rule}
 use Rattle.khe_told.specs.Turns.{SlotTurn, duration_of}
 use Rattle.khe_told.specs.declared.slots.Slot.{Slot}
@@ -48,6 +49,20 @@ most_of span = option_map_or (λ (y : Span). y.duration + 1) span 0
 
 abbrev pub greatest_total : ℕ
 greatest_total = DURATION * (NUMBER + 1)
+
+-- what a meet counts for is what both parts count for where it is cut
+abbrev pub AddsUp : (Rule → Option Span → Option (Option ResourceId) → ℕ) → Type 0
+AddsUp share = (rule : Rule) (cut rest : ℕ) (start : Option TimeId) (given : Option (Option ResourceId))
+    → share rule (Some (record { duration = cut + rest; start = start })) given
+    ≡ share rule (Some (record { duration = cut; start = start })) given
+    + share rule (Some (record { duration = rest; start = option_map (λ (t : TimeId). record { 0 = t.0 + cut }) start }))
+    given
+
+-- a turn leaves what its slot counts for in the sum of a monitor that names its event
+abbrev pub IsSameShare : (Rule → Option Span → Option (Option ResourceId) → ℕ) → Parts → Monitor → SlotTurn → Type 0
+IsSameShare share p m t = (c : Constraint) → slice_get p.constraints m.constraint ≡ Some c
+    → share c.rule t.after.span (given_at m.point t.after.given)
+    ≡ share c.rule t.before.span (given_at m.point t.before.given)
 
 -- the share of a slot in a monitor's sum, by the monitor's rule and point: none where it is another
 -- event's

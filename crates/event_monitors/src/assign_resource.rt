@@ -1,12 +1,13 @@
 //! Assign Resource.
 
 use crate::counted::Counted;
+use crate::effects::alters_tasks;
 use crate::shares::{Share, moves_tasks};
 use crate::sums::{Sum, Summed};
 use family_keepers::Keeping;
 use khe_base::ResourceId;
 use khe_instance::{Instance, Kind, Rule};
-use khe_told::{Span, Turn};
+use khe_told::{Effect, Span, Turn};
 
 /// The family of Assign Resource: a monitor's deviation is the duration of the tasks at its place
 /// without a resource.
@@ -26,6 +27,14 @@ impl Share for Unfilled {
 
     fn hears(turn: &Turn<'_>) -> bool {
         moves_tasks(turn)
+    }
+
+    fn observes(effect: &Effect<'_>) -> bool {
+        alters_tasks(effect)
+    }
+
+    fn observes_cuts() -> bool {
+        false
     }
 
     ghost unheard = { unfilled_unheard };

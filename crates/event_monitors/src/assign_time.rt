@@ -1,12 +1,13 @@
 //! Assign Time.
 
 use crate::counted::Counted;
+use crate::effects::alters_meet;
 use crate::shares::{Share, moves_meet};
 use crate::sums::{Sum, Summed};
 use family_keepers::Keeping;
 use khe_base::ResourceId;
 use khe_instance::{Instance, Kind, Rule};
-use khe_told::{Span, Turn};
+use khe_told::{Effect, Span, Turn};
 
 /// The family of Assign Time: a monitor's deviation is the duration of its event's meets without a
 /// start.
@@ -26,6 +27,14 @@ impl Share for Unplaced {
 
     fn hears(turn: &Turn<'_>) -> bool {
         moves_meet(turn)
+    }
+
+    fn observes(effect: &Effect<'_>) -> bool {
+        alters_meet(effect)
+    }
+
+    fn observes_cuts() -> bool {
+        false
     }
 
     ghost unheard = { unplaced_unheard };

@@ -3,6 +3,7 @@
 use crate::gauges::Gauge;
 use crate::indexes::Index;
 use crate::posts::gauges_of;
+use crate::queueing::{queue_affected, queue_cut};
 use crate::turns::turn_all;
 use family_keepers::Keeper;
 use khe_base::{MonitorId, NoMemory, beside};
@@ -41,7 +42,7 @@ impl<G: Gauge + Drop> Keeper for Counted<G> {
         × (length f.gauges.items ≡ length f.index.posts) × AreKept G.Keeps p f.index.posts f.gauges.items s
         × ArePlaces f.index.posts f.index.places.items };
 
-    ghost Foresees = { λ f p ts. ⊥ };
+    ghost Foresees = { λ f p ts. G.Foresees ts };
 
     fn open(alloc: Global, inst: &Instance) -> Result<Counted<G>, NoMemory> {
         let index = Index::open::<G>(alloc, inst)?;
@@ -70,8 +71,7 @@ impl<G: Gauge + Drop> Keeper for Counted<G> {
 
     fn foresees(&self, inst: &Instance, effects: &Effects<'_>) -> bool {
         let _ = inst;
-        let _ = effects;
-        false
+        G::foresees(effects)
     }
 
     fn queue_affected<W: Waits>(
@@ -81,10 +81,17 @@ impl<G: Gauge + Drop> Keeper for Counted<G> {
         effects: &Effects<'_>,
         waits: &mut W,
     ) {
-        let _ = inst;
         let _ = told;
-        let _ = effects;
-        let _ = waits;
+        let gauges = self.gauges.as_slice();
+        let (first, second) = effects.slots();
+        if effects.is_cut() {
+            queue_cut(inst, first.event(), &self.index, gauges, waits);
+            return;
+        }
+        queue_affected(inst, first, &self.index, gauges, waits);
+        if let Some(second) = second {
+            queue_affected(inst, second, &self.index, gauges, waits);
+        }
     }
 
     fn deviation_after(
@@ -94,8 +101,8 @@ impl<G: Gauge + Drop> Keeper for Counted<G> {
         effects: &Effects<'_>,
         monitor: MonitorId,
     ) -> u64 {
-        let _ = told;
-        let _ = effects;
-        self.deviation(inst, monitor)
+        let k = self.index.place_of(monitor);
+        let monitor = self.index.posts.as_slice()[k].monitor;
+        self.gauges[k].value_after(inst, monitor, told, effects)
     }
 }

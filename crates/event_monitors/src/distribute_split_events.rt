@@ -1,12 +1,13 @@
 //! Distribute Split Events.
 
 use crate::counted::Counted;
+use crate::effects::alters_duration;
 use crate::shares::{Share, resizes};
 use crate::sums::{Sum, Summed};
 use family_keepers::Keeping;
 use khe_base::{ResourceId, count_out};
 use khe_instance::{Instance, Kind, Rule};
-use khe_told::{Span, Turn};
+use khe_told::{Effect, Span, Turn};
 
 /// The family of Distribute Split Events: a monitor's deviation is by how many its event has too few
 /// or too many meets of the rule's duration.
@@ -26,6 +27,14 @@ impl Share for OfDuration {
 
     fn hears(turn: &Turn<'_>) -> bool {
         resizes(turn)
+    }
+
+    fn observes(effect: &Effect<'_>) -> bool {
+        alters_duration(effect)
+    }
+
+    fn observes_cuts() -> bool {
+        true
     }
 
     ghost unheard = { of_duration_unheard };

@@ -7,14 +7,16 @@ ghost use Rattle.khe_instance.specs.declared.parts.Parts.{Parts};
 ghost use Rattle.khe_instance.specs.declared.points.Monitor.{Monitor};
 ghost use Rattle.khe_instance.specs.declared.rules.Kind.{Kind};
 ghost use Rattle.khe_told.specs.Agreement.{deviation_in};
+ghost use Rattle.khe_told.specs.Effects.{AreTurns, turned_all};
 ghost use Rattle.khe_told.specs.Slots.{emptied, no_meets, slot_at};
 ghost use Rattle.khe_told.specs.Turns.{IsTurn, SlotTurn, turned};
 ghost use Rattle.khe_told.specs.declared.slots.Slot.{Slot};
+ghost use Rattle.event_monitors.specs.Effects.{IsUncut};
 ghost use Rattle.event_monitors.specs.Posts.{names};
 
 use khe_base::NoMemory;
 use khe_instance::{Instance, Kind, Monitor};
-use khe_told::{Told, Turn};
+use khe_told::{Effect, Effects, Told, Turn};
 use std::alloc::Global;
 
 /// What is kept for one monitor of some kinds, from which its deviation is read. It is turned where a meet
@@ -61,11 +63,56 @@ pub trait Gauge {
         ensures value { result ≡ value self.now inst.now monitor }
         ensures small { result ≤ GREATEST_DEVIATION };
 
+    /// That gauges can tell the deviations after effects without a change.
+    ghost Foresees: { List SlotTurn → Type 0 };
+
+    /// Whether `value_after` may be asked about these effects. It takes constant time.
+    fn foresees(effects: &Effects<'_>) -> bool
+        ensures { result ≡ true → Foresees effects.now };
+
+    /// Whether an effect on a slot may change what a gauge keeps or reads. It takes the time of the slot's places.
+    fn observes(effect: &Effect<'_>) -> bool
+        ensures { result ≡ false → IsUnheard effect.now };
+
+    /// That an effect on a slot of an event that the monitor names leaves what a gauge of it keeps.
+    ghost IsUnaffected: { Self → Parts → Monitor → SlotTurn → Type 0 };
+
+    /// Whether an effect on a slot of an event that the monitor names may change the deviation. It takes no memory.
+    fn is_affected(&self, inst: &Instance, monitor: Monitor, effect: &Effect<'_>) -> bool
+        requires keeps { (s : List Slot) × Keeps self.now inst.now monitor s }
+        ensures { result ≡ false → IsUnaffected self.now inst.now monitor effect.now };
+
+    /// Whether a cut may change the deviation that is read from a gauge. It takes constant time.
+    fn observes_cuts() -> bool
+        ensures { result ≡ false → (g : Self) → IsUncut Keeps value g };
+
+    /// Whether a cut may change the deviation that is read from this gauge. It takes constant time.
+    fn observes_cut(&self) -> bool
+        ensures { result ≡ false → IsUncut Keeps value self.now };
+
+    /// The deviation that the monitor would have after the effects. What is told is the state before them. It takes
+    /// no memory.
+    fn value_after(
+        &self,
+        inst: &Instance,
+        monitor: Monitor,
+        told: &Told,
+        effects: &Effects<'_>,
+    ) -> u64
+        requires keeps { Keeps self.now inst.now monitor told.now }
+        requires turns { AreTurns inst.now told.now effects.now }
+        requires foreseen { Foresees effects.now }
+        ensures value { deviation_in inst.now (turned_all told.now effects.now) monitor ≡ result }
+        ensures small { result ≤ GREATEST_DEVIATION };
+
     /// What is read is the definition's deviation.
     ghost exact: { (g : Self) (p : Parts) (m : Monitor) (s : List Slot) → Keeps g p m s → deviation_in p s m ≡ value g p m };
 
     /// A change the gauge does not observe keeps it valid.
     ghost deaf: { (g : Self) (p : Parts) (m : Monitor) (s : List Slot) (t : SlotTurn) → IsUnheard t → IsTurn p s t → Keeps g p m s → Keeps g p m (turned s t) };
+
+    /// An effect that leaves what it keeps keeps it valid.
+    ghost unaffected: { (g : Self) (p : Parts) (m : Monitor) (s : List Slot) (t : SlotTurn) → IsUnaffected g p m t → IsTurn p s t → Keeps g p m s → Keeps g p m (turned s t) };
 
     /// A change of a slot of an event that the monitor does not name keeps it valid.
     ghost elsewhere: { (g : Self) (p : Parts) (m : Monitor) (s : List Slot) (k : ℕ) (x : Slot) → k < length s → emptied x ≡ emptied (slot_at s k)

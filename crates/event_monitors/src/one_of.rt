@@ -3,7 +3,7 @@
 use crate::gauges::Gauge;
 use khe_base::NoMemory;
 use khe_instance::{Instance, Kind, Monitor};
-use khe_told::{Told, Turn};
+use khe_told::{Effect, Effects, Told, Turn};
 use std::alloc::Global;
 
 /// A gauge of one of two sorts, by the monitor's kind; where both sorts serve a kind it is the first.
@@ -18,7 +18,7 @@ pub enum OneOf<A, B> {
 
 impl<A: Gauge + Drop, B: Gauge + Drop> Gauge for OneOf<A, B> {
     ghost use Rattle.std.specs.Prelude.{◌||◌};
-    ghost use Rattle.event_monitors.specs.OneOfs.{keeps_one, value_one, exact_one, deaf_one, elsewhere_one};
+    ghost use Rattle.event_monitors.specs.OneOfs.{keeps_one, value_one, exact_one, deaf_one, elsewhere_one, unaffected_in, unaffected_one};
 
     ghost serves_kind = { λ k. A.serves_kind k || B.serves_kind k };
 
@@ -61,9 +61,55 @@ impl<A: Gauge + Drop, B: Gauge + Drop> Gauge for OneOf<A, B> {
         }
     }
 
+    ghost Foresees = { λ ts. A.Foresees ts × B.Foresees ts };
+
+    fn foresees(effects: &Effects<'_>) -> bool {
+        A::foresees(effects) && B::foresees(effects)
+    }
+
+    fn observes(effect: &Effect<'_>) -> bool {
+        A::observes(effect) || B::observes(effect)
+    }
+
+    ghost IsUnaffected = { unaffected_in A.IsUnaffected B.IsUnaffected };
+
+    #[inline(always)]
+    fn is_affected(&self, inst: &Instance, monitor: Monitor, effect: &Effect<'_>) -> bool {
+        match self {
+            OneOf::First(gauge) => gauge.is_affected(inst, monitor, effect),
+            OneOf::Second(gauge) => gauge.is_affected(inst, monitor, effect),
+        }
+    }
+
+    fn observes_cuts() -> bool {
+        A::observes_cuts() || B::observes_cuts()
+    }
+
+    fn observes_cut(&self) -> bool {
+        match self {
+            OneOf::First(gauge) => gauge.observes_cut(),
+            OneOf::Second(gauge) => gauge.observes_cut(),
+        }
+    }
+
+    fn value_after(
+        &self,
+        inst: &Instance,
+        monitor: Monitor,
+        told: &Told,
+        effects: &Effects<'_>,
+    ) -> u64 {
+        match self {
+            OneOf::First(gauge) => gauge.value_after(inst, monitor, told, effects),
+            OneOf::Second(gauge) => gauge.value_after(inst, monitor, told, effects),
+        }
+    }
+
     ghost exact = { exact_one A.Keeps B.Keeps A.value B.value A.exact B.exact };
 
     ghost deaf = { deaf_one A.Keeps B.Keeps A.IsUnheard B.IsUnheard A.deaf B.deaf };
+
+    ghost unaffected = { unaffected_one A.Keeps B.Keeps A.IsUnaffected B.IsUnaffected A.unaffected B.unaffected };
 
     ghost elsewhere = { elsewhere_one A.Keeps B.Keeps A.elsewhere B.elsewhere };
 }

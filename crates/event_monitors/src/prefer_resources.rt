@@ -4,12 +4,13 @@ ghost use Rattle.std.specs.Prelude.{◌≡◌};
 ghost use Rattle.khe_instance.specs.EventDeviation.{misfilled_duration};
 
 use crate::counted::Counted;
+use crate::effects::alters_tasks;
 use crate::shares::{Share, moves_tasks};
 use crate::sums::{Sum, Summed};
 use family_keepers::Keeping;
 use khe_base::{IdSet, ResourceId};
 use khe_instance::{Instance, Kind, Rule};
-use khe_told::{Span, Turn};
+use khe_told::{Effect, Span, Turn};
 
 /// The family of Prefer Resources: a monitor's deviation is the duration of the tasks at its place
 /// with a resource outside the preferred ones.
@@ -30,6 +31,14 @@ impl Share for Misfilled {
 
     fn hears(turn: &Turn<'_>) -> bool {
         moves_tasks(turn)
+    }
+
+    fn observes(effect: &Effect<'_>) -> bool {
+        alters_tasks(effect)
+    }
+
+    fn observes_cuts() -> bool {
+        false
     }
 
     ghost unheard = { misfilled_unheard };

@@ -4,12 +4,13 @@ ghost use Rattle.std.specs.Prelude.{◌≡◌};
 ghost use Rattle.khe_instance.specs.EventDeviation.{misplaced_duration};
 
 use crate::counted::Counted;
+use crate::effects::alters_meet;
 use crate::shares::{Share, moves_meet};
 use crate::sums::{Sum, Summed};
 use family_keepers::Keeping;
 use khe_base::{IdSet, ResourceId};
 use khe_instance::{Instance, Kind, Rule};
-use khe_told::{Span, Turn};
+use khe_told::{Effect, Span, Turn};
 
 /// The family of Prefer Times: a monitor's deviation is the duration of its event's meets with a
 /// start outside the preferred times, or of those alone of one duration, where the rule has one.
@@ -29,6 +30,14 @@ impl Share for Misplaced {
 
     fn hears(turn: &Turn<'_>) -> bool {
         moves_meet(turn)
+    }
+
+    fn observes(effect: &Effect<'_>) -> bool {
+        alters_meet(effect)
+    }
+
+    fn observes_cuts() -> bool {
+        true
     }
 
     ghost unheard = { misplaced_unheard };

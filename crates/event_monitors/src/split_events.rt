@@ -1,18 +1,19 @@
 //! Split Events.
 
 ghost use Rattle.std.specs.Prelude.{◌≡◌, ◌≤◌, ◌+◌};
-ghost use Rattle.khe_base.specs.declared.limits.TheConstants.{NUMBER};
-ghost use Rattle.khe_instance.specs.WellMade.{IsRule};
+ghost use Rattle.khe_base.specs.declared.limits.TheConstants.{GREATEST_DEVIATION, NUMBER};
+ghost use Rattle.khe_instance.specs.WellMade.{IsMonitor, IsRule};
 ghost use Rattle.event_monitors.specs.Shares.{greatest_total};
-ghost use Rattle.event_monitors.specs.SplitEvents.{split_by};
+ghost use Rattle.event_monitors.specs.SplitEvents.{split_by, split_value};
 
 use crate::counted::Counted;
+use crate::effects::alters_duration;
 use crate::gauges::Gauge;
-use crate::shares::{Share, resizes, turned};
+use crate::shares::{Share, resizes, total_after, turned};
 use family_keepers::Keeping;
 use khe_base::{NoMemory, ResourceId, count_out};
 use khe_instance::{Instance, Kind, Monitor, Rule};
-use khe_told::{Span, Told, Turn};
+use khe_told::{Effect, Effects, Span, Told, Turn};
 use std::alloc::Global;
 
 /// The family of Split Events: a monitor's deviation is how many of its event's meets are too short
@@ -68,9 +69,47 @@ impl Gauge for Split {
     }
 
     fn value(&self, inst: &Instance, monitor: Monitor) -> u64 {
-        inst.facts();
-        let rule = &inst.constraint(monitor.constraint).rule;
-        measure(inst, rule, self.unfit, self.meets)
+        measure_both(inst, monitor, self.unfit, self.meets)
+    }
+
+    ghost Foresees = { λ ts. Unit {0} };
+
+    fn foresees(effects: &Effects<'_>) -> bool {
+        let _ = effects;
+        true
+    }
+
+    fn observes(effect: &Effect<'_>) -> bool {
+        alters_duration(effect)
+    }
+
+    ghost IsUnaffected = { λ g p m t. ⊥ };
+
+    fn is_affected(&self, inst: &Instance, monitor: Monitor, effect: &Effect<'_>) -> bool {
+        let _ = inst;
+        let _ = monitor;
+        let _ = effect;
+        true
+    }
+
+    fn observes_cuts() -> bool {
+        true
+    }
+
+    fn observes_cut(&self) -> bool {
+        true
+    }
+
+    fn value_after(
+        &self,
+        inst: &Instance,
+        monitor: Monitor,
+        told: &Told,
+        effects: &Effects<'_>,
+    ) -> u64 {
+        let unfit = total_after::<Unfit>(self.unfit, inst, monitor, told, effects);
+        let meets = total_after::<Meets>(self.meets, inst, monitor, told, effects);
+        measure_both(inst, monitor, unfit, meets)
     }
 
     ghost exact = { λ g p m s k. split_exact p m s g.unfit g.meets k.0 k.1 k.2 k.4 };
@@ -84,6 +123,8 @@ impl Gauge for Split {
       kept.5,
     ) };
 
+    ghost unaffected = { λ g p m s t h turns kept. absurd h };
+
     ghost elsewhere = { λ g p m s k x l same named kept. (
       kept.0,
       kept.1,
@@ -92,6 +133,19 @@ impl Gauge for Split {
       total_elsewhere meets p m s k x g.meets l same named kept.0 kept.4,
       kept.5,
     ) };
+}
+
+// A monitor's deviation by both sums.
+fn measure_both(inst: &Instance, monitor: Monitor, unfit: u64, meets: u64) -> u64
+    requires monitor { IsMonitor inst.now monitor }
+    requires unfit { unfit ≤ greatest_total }
+    requires meets { meets ≤ greatest_total }
+    ensures value { result ≡ split_value inst.now monitor unfit meets }
+    ensures small { result ≤ GREATEST_DEVIATION }
+{
+    inst.facts();
+    let rule = &inst.constraint(monitor.constraint).rule;
+    measure(inst, rule, unfit, meets)
 }
 
 // The deviation, by a rule of the instance and both sums.
@@ -129,6 +183,14 @@ impl Share for Unfit {
         resizes(turn)
     }
 
+    fn observes(effect: &Effect<'_>) -> bool {
+        alters_duration(effect)
+    }
+
+    fn observes_cuts() -> bool {
+        true
+    }
+
     ghost unheard = { unfit_unheard };
 
     fn share(rule: &Rule, span: Option<Span>, given: Option<Option<ResourceId>>) -> u64 {
@@ -163,6 +225,14 @@ impl Share for Meets {
 
     fn hears(turn: &Turn<'_>) -> bool {
         resizes(turn)
+    }
+
+    fn observes(effect: &Effect<'_>) -> bool {
+        alters_duration(effect)
+    }
+
+    fn observes_cuts() -> bool {
+        true
     }
 
     ghost unheard = { meets_unheard };

@@ -1,23 +1,23 @@
 //! Kinds whose deviation is read from one sum.
 
 ghost use Rattle.std.specs.Prelude.{◌≡◌, ◌≤◌, ◌+◌, Bool, true, ℕ, List};
-ghost use Rattle.khe_base.specs.declared.limits.TheConstants.{NUMBER};
+ghost use Rattle.khe_base.specs.declared.limits.TheConstants.{GREATEST_DEVIATION, NUMBER};
 ghost use Rattle.khe_instance.specs.Deviation.{deviation_at};
 ghost use Rattle.khe_instance.specs.Kinds.{kind_of};
-ghost use Rattle.khe_instance.specs.WellMade.{IsPointOf, IsRule};
+ghost use Rattle.khe_instance.specs.WellMade.{IsMonitor, IsPointOf, IsRule};
 ghost use Rattle.khe_instance.specs.declared.parts.Parts.{Parts};
 ghost use Rattle.khe_instance.specs.declared.points.Point.{Point};
 ghost use Rattle.khe_instance.specs.declared.rules.Kind.{Kind};
 ghost use Rattle.khe_instance.specs.declared.rules.Rule.{Rule};
 ghost use Rattle.khe_told.specs.Lists.{meets_in, duties_in};
 ghost use Rattle.khe_told.specs.declared.slots.Slot.{Slot};
-ghost use Rattle.event_monitors.specs.Shares.{greatest_total, total_at};
+ghost use Rattle.event_monitors.specs.Shares.{greatest_total, measured_by, total_at};
 
 use crate::gauges::Gauge;
-use crate::shares::{Share, turned};
+use crate::shares::{Share, is_other, total_after, turned};
 use khe_base::NoMemory;
 use khe_instance::{Instance, Kind, Monitor, Rule};
-use khe_told::{Told, Turn};
+use khe_told::{Effect, Effects, Told, Turn};
 use std::alloc::Global;
 use std::marker::PhantomData;
 
@@ -54,8 +54,8 @@ pub struct Sum<S> {
 impl<S: Summed> Gauge for Sum<S> {
     ghost use Rattle.std.specs.Prelude.{◌≡◌, ◌≤◌, true};
     ghost use Rattle.khe_instance.specs.WellMade.{IsMonitor};
-    ghost use Rattle.event_monitors.specs.ShareLaws.{measured_total, total_elsewhere, total_unheard};
-    ghost use Rattle.event_monitors.specs.Shares.{greatest_total, measured_by, total_of};
+    ghost use Rattle.event_monitors.specs.ShareLaws.{measured_total, total_elsewhere, total_unaffected, total_unheard};
+    ghost use Rattle.event_monitors.specs.Shares.{IsSameShare, greatest_total, measured_by, total_of};
 
     ghost serves_kind = { S.serves_kind };
 
@@ -90,14 +90,63 @@ impl<S: Summed> Gauge for Sum<S> {
     }
 
     fn value(&self, inst: &Instance, monitor: Monitor) -> u64 {
-        inst.facts();
-        let rule = &inst.constraint(monitor.constraint).rule;
-        S::measured(inst, rule, self.total)
+        measure::<S>(inst, monitor, self.total)
+    }
+
+    ghost Foresees = { λ ts. Unit {0} };
+
+    fn foresees(effects: &Effects<'_>) -> bool {
+        let _ = effects;
+        true
+    }
+
+    fn observes(effect: &Effect<'_>) -> bool {
+        S::observes(effect)
+    }
+
+    ghost IsUnaffected = { λ g p m t. IsSameShare S.share p m t };
+
+    #[inline(always)]
+    fn is_affected(&self, inst: &Instance, monitor: Monitor, effect: &Effect<'_>) -> bool {
+        is_other::<S>(inst, monitor, effect)
+    }
+
+    fn observes_cuts() -> bool {
+        S::observes_cuts()
+    }
+
+    fn observes_cut(&self) -> bool {
+        S::observes_cuts()
+    }
+
+    fn value_after(
+        &self,
+        inst: &Instance,
+        monitor: Monitor,
+        told: &Told,
+        effects: &Effects<'_>,
+    ) -> u64 {
+        let total = total_after::<S>(self.total, inst, monitor, told, effects);
+        measure::<S>(inst, monitor, total)
     }
 
     ghost exact = { λ g p m s k. measured_total S.share S.serves_kind S.measured S.exact p m s g.total k.0 k.1 k.2 };
 
     ghost deaf = { λ g p m s t h turns kept. (kept.0, kept.1, total_unheard S.share p m s t g.total turns (λ r q. S.unheard r q t h) kept.2, kept.3) };
 
+    ghost unaffected = { λ g p m s t h turns kept. (kept.0, kept.1, total_unaffected S.share p m s t g.total turns h kept.2, kept.3) };
+
     ghost elsewhere = { λ g p m s k x l same named kept. (kept.0, kept.1, total_elsewhere S.share p m s k x g.total l same named kept.0 kept.2, kept.3) };
+}
+
+/// A monitor's deviation by its sum. It takes constant time and no memory.
+fn measure<S: Summed>(inst: &Instance, monitor: Monitor, total: u64) -> u64
+    requires monitor { IsMonitor inst.now monitor }
+    requires small { total ≤ greatest_total }
+    ensures value { result ≡ measured_by S.measured inst.now monitor total }
+    ensures small { result ≤ GREATEST_DEVIATION }
+{
+    inst.facts();
+    let rule = &inst.constraint(monitor.constraint).rule;
+    S::measured(inst, rule, total)
 }

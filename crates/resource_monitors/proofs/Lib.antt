@@ -1,5 +1,6 @@
 pub mod ClashLaws
 pub mod CountLaws
+pub mod CutLaws
 pub mod ExchangeLaws
 pub mod FamilyLaws
 pub mod FollowLaws

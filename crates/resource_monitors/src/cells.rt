@@ -99,6 +99,7 @@ fn turn_cells<K: CellKinds, W: Waits>(
 
 impl<K: CellKinds> Keeper for Cells<K> {
     ghost use Rattle.std.specs.Prelude.{◌≡◌};
+    ghost use Rattle.khe_told.specs.Effects.{AreCut};
     ghost use Rattle.resource_monitors.specs.Kept.{AreKept};
 
     ghost serves_kind = { K.serves_kind };
@@ -107,7 +108,7 @@ impl<K: CellKinds> Keeper for Cells<K> {
 
     ghost Keeps = { λ f p s. AreKept K.serves_kind p s f.table f.sets f.lists.items };
 
-    ghost Foresees = { λ f p ts. ⊥ };
+    ghost Foresees = { λ f p ts. AreCut ts };
 
     fn open(alloc: Global, inst: &Instance) -> Result<Cells<K>, NoMemory> {
         inst.facts();
@@ -139,8 +140,7 @@ impl<K: CellKinds> Keeper for Cells<K> {
 
     fn foresees(&self, inst: &Instance, effects: &Effects<'_>) -> bool {
         let _ = inst;
-        let _ = effects;
-        false
+        effects.is_cut()
     }
 
     fn queue_affected<W: Waits>(
@@ -150,7 +150,7 @@ impl<K: CellKinds> Keeper for Cells<K> {
         effects: &Effects<'_>,
         waits: &mut W,
     ) {
-        let _ = inst;
+        inst.facts();
         let _ = told;
         let _ = effects;
         let _ = waits;

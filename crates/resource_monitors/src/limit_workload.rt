@@ -26,6 +26,7 @@ pub struct Workloads {
 }
 
 impl Keeper for Workloads {
+    ghost use Rattle.khe_told.specs.Effects.{AreCut};
     ghost use Rattle.resource_monitors.specs.Loads.{AreKept, is_on_workload};
 
     ghost serves_kind = { is_on_workload };
@@ -34,7 +35,7 @@ impl Keeper for Workloads {
 
     ghost Keeps = { λ f p s. AreKept p s f.loads.items f.lists.items };
 
-    ghost Foresees = { λ f p ts. ⊥ };
+    ghost Foresees = { λ f p ts. AreCut ts };
 
     fn open(alloc: Global, inst: &Instance) -> Result<Workloads, NoMemory> {
         let lists = lists_of(alloc, inst)?;
@@ -63,8 +64,7 @@ impl Keeper for Workloads {
 
     fn foresees(&self, inst: &Instance, effects: &Effects<'_>) -> bool {
         let _ = inst;
-        let _ = effects;
-        false
+        effects.is_cut()
     }
 
     fn queue_affected<W: Waits>(
@@ -74,7 +74,7 @@ impl Keeper for Workloads {
         effects: &Effects<'_>,
         waits: &mut W,
     ) {
-        let _ = inst;
+        inst.facts();
         let _ = told;
         let _ = effects;
         let _ = waits;

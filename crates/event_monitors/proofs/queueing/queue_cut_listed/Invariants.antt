@@ -1,0 +1,15 @@
+use Rattle.std.proofs.Common.{◌≡◌, Some, true, drop, slice_get}
+use Rattle.khe_told.specs.Waits.{WaitOn}
+use Rattle.event_monitors.specs.Effects.{HoldOrWait, IsUncut}
+use Rattle.event_monitors.proofs.queueing.queue_cut_listed.Given as goal
+
+abbrev pub invariant-loop-place : goal.invariant-loop-place
+invariant-loop-place g l =
+    record {
+      monitors : g.W.Waits.monitors l.waits ≡ g.W.Waits.monitors l.fn.waits;
+      uncut : g.W.Waits.hears ≡ true
+          → HoldOrWait (λ k a. (x : g.row.G.Denot) → slice_get l.gauges k ≡ Some x
+          → IsUncut g.G.Gauge.Keeps g.G.Gauge.value x) l.posts l.list (drop l.place-index l.list)
+          (g.W.Waits.waits l.waits);
+      kept : WaitOn (g.W.Waits.waits l.fn.waits) (g.W.Waits.waits l.waits);
+    }
