@@ -10,7 +10,9 @@ use Rattle.khe_base.proofs.ListLemmas.{get-set}
 use Rattle.khe_base.specs.declared.numbers.ResourceId.{ResourceId}
 use Rattle.khe_base.specs.declared.numbers.TimeId.{TimeId}
 use Rattle.khe_instance.specs.declared.parts.Parts.{Parts}
+use Rattle.khe_told.specs.Effects.{turned_all}
 use Rattle.khe_told.specs.Slots.{slot_at, start_of}
+use Rattle.khe_told.specs.Turns.{SlotTurn}
 use Rattle.khe_told.specs.declared.edits.Back.{Back}
 use Rattle.khe_told.specs.declared.edits.Back.TheVariants.{By}
 use Rattle.khe_told.specs.declared.edits.Edit.{Edit}
@@ -31,7 +33,7 @@ use Rattle.monitor_graph.proofs.EditLaws.{remove_known}
 use Rattle.monitor_graph.proofs.SeatLaws.{child_in_group, child_place, group_is, listed}
 use Rattle.monitor_graph.specs.declared.lines.Line.{Line}
 use Rattle.undo_paths.specs.Stack.{with_record}
-use Rattle.khe_engine.specs.States.{State, state_of, refusal, edited, made, changes, is_back_of_groups, undone}
+use Rattle.khe_engine.specs.States.{State, attaches, state_of, refusal, edited, made, changes, is_back_of_groups, undone}
 use Rattle.khe_engine.specs.States.{undone_changes}
 use Rattle.khe_engine.specs.Worlds.{IsCheck}
 use Rattle.khe_engine.specs.Records.{Leads, LeadsBy, IsRecorded}
@@ -103,6 +105,43 @@ pub changes_groups : (s : State) (e : Edit) → groups.is_of_groups e ≡ true �
 unfolding changes
 changes_groups s e h = ap (λ t. cond t [] (changing.changes s.slots e)) h
 
+-- one that attaches or detaches a monitor, and one that leaves all monitors as they are
+pub attaches_groups : (e : Edit) → attaches e ≡ true → groups.is_of_groups e ≡ true
+attaches_groups (Attach m) h = refl
+attaches_groups (Detach m) h = refl
+attaches_groups MakeGroup h = refl
+attaches_groups (DropGroup g) h = refl
+attaches_groups (AddChild g m) h = refl
+attaches_groups (RemoveChild g m) h = refl
+attaches_groups (Assign a b) h = h
+attaches_groups (Unassign a) h = h
+attaches_groups (MoveTo a b) h = h
+attaches_groups (Split a b) h = h
+attaches_groups (Merge a b) h = h
+attaches_groups (SwapMeets a b) h = h
+attaches_groups (Give a b) h = h
+attaches_groups (Take a) h = h
+attaches_groups (Regive a b) h = h
+attaches_groups (SwapTasks a b) h = h
+
+pub same_attached : (s : Grouping) (e : Edit) → attaches e ≡ false → (groups.edited s e).attached ≡ s.attached
+same_attached s (Attach m) h = absurd (both_ways true h refl)
+same_attached s (Detach m) h = absurd (both_ways true h refl)
+same_attached s MakeGroup h = refl
+same_attached s (DropGroup g) h = refl
+same_attached s (AddChild g m) h = refl
+same_attached s (RemoveChild g m) h = refl
+same_attached s (Assign a b) h = refl
+same_attached s (Unassign a) h = refl
+same_attached s (MoveTo a b) h = refl
+same_attached s (Split a b) h = refl
+same_attached s (Merge a b) h = refl
+same_attached s (SwapMeets a b) h = refl
+same_attached s (Give a b) h = refl
+same_attached s (Take a) h = refl
+same_attached s (Regive a b) h = refl
+same_attached s (SwapTasks a b) h = refl
+
 -- an edit of meets and tasks
 pub refusal_meets : (p : Parts) (s : State) (e : Edit) → groups.is_of_groups e ≡ false
     → refusal p s e ≡ refusing.refusal p s.slots e
@@ -114,6 +153,13 @@ pub edited_meets : (s : State) (e : Edit) → groups.is_of_groups e ≡ false
 unfolding edited
 edited_meets s e h = ap (λ t. cond t (record s { grouping = groups.edited s.grouping e })
     (record s { slots = editing.edited s.slots e })) h
+
+-- effects that lead to the slots after an edit lead to its state
+pub foreseen_state : (s told : List Slot) (b : Board) (e : Edit) (ts : List SlotTurn) → refusing.is_of_meets e ≡ true
+    → told ≡ s → turned_all s ts ≡ editing.edited s e → state_of (turned_all told ts) b ≡ edited (state_of s b) e
+foreseen_state s told b e ts ours same leads =
+    ap (λ (x : List Slot). state_of x b) (ap (λ (x : List Slot). turned_all x ts) same ∙ leads)
+    ∙ sym (edited_meets (state_of s b) e (one_sort e ours))
 
 pub made_meets : (s : State) (e : Edit) → groups.is_of_groups e ≡ false → made s e ≡ editing.made s.slots e
 unfolding made

@@ -1,24 +1,28 @@
 -- A graph whose families serve every kind has the values of the slots that these were told.
 use Rattle.std.proofs.Common.{ℕ, ◌≡◌, ◌<◌, Some, List, length, map, get_or}
 use Rattle.std.proofs.Common.{slice_get, sym, ap, ◌∙◌, arith}
-use Rattle.std.specs.Prelude.{not}
+use Rattle.std.specs.Prelude.{Bool, false, not, true}
 use Rattle.std.specs.Option.{option_map}
 use Rattle.std.proofs.lemmas.Grind.{same_number_lists}
 use Rattle.std.proofs.lemmas.List.{length-map}
 use Rattle.std.proofs.lemmas.Option.{get_or_from_slice_get, slice_get-map}
 use Rattle.std.proofs.lemmas.Simd.{map-map}
 use Rattle.khe_base.proofs.ListLemmas.{there}
-use Rattle.khe_instance.specs.Costs.{costs_of}
+use Rattle.khe_base.specs.declared.sums.Totals.{Totals}
+use Rattle.khe_instance.specs.Costs.{costs_of, totals_of}
 use Rattle.khe_instance.specs.declared.parts.Parts.{Parts}
 use Rattle.khe_instance.specs.declared.points.Monitor.{Monitor}
 use Rattle.khe_told.specs.Agreement.{deviation_in}
+use Rattle.khe_told.specs.declared.edits.Edit.{Edit}
 use Rattle.khe_told.specs.declared.slots.Slot.{Slot}
 use Rattle.monitor_graph.specs.Boards.{Board, HaveSameRest, KeepsValues, deviations_of, fixed_of, grouping_of, rate_of}
 use Rattle.monitor_graph.specs.Edits.{is_attached}
+use Rattle.monitor_graph.specs.Edits as groups
 use Rattle.monitor_graph.specs.Values.{IsOf, costs_in}
 use Rattle.monitor_graph.specs.declared.lines.Line.{Line}
-use Rattle.khe_engine.specs.States.{HaveSameGroups, state_of}
-use Rattle.khe_engine.specs.Values.{HasValues, costs, deviations_in}
+use Rattle.khe_engine.specs.States.{HaveSameGroups, State, attaches, edited, state_of}
+use Rattle.khe_engine.specs.Values.{HasValues, costs, deviations_in, totals}
+use Rattle.khe_engine.proofs.StateLaws.{edited_groups, same_attached}
 
 -- they are those of the slots, and what are those of the slots are the values
 pub value_at : (p : Parts) (s : List Slot) (b : Board) (i : ℕ) (m : Monitor) → HasValues p s b
@@ -90,3 +94,15 @@ value_is p s b m r h l e =
 
 pub costs_same : (p : Parts) (s : List Slot) (b : Board) → HasValues p s b → costs_in p b ≡ costs p (state_of s b)
 costs_same p s b h = ap (costs_of p (λ n. not (is_attached (grouping_of b) n))) h.deviations
+
+-- the totals of a graph of these slots; and groups have no part in them
+pub totals_same : (p : Parts) (s : List Slot) (b : Board) (t : Totals) → HasValues p s b
+    → t ≡ totals_of p (costs_in p b) → t ≡ totals p (state_of s b)
+totals_same p s b t h e = e ∙ ap (totals_of p) (costs_same p s b h)
+
+pub totals_grouped : (p : Parts) (s : State) (e : Edit) → groups.is_of_groups e ≡ true → attaches e ≡ false
+    → totals p s ≡ totals p (edited s e)
+totals_grouped p s e ours none =
+    ap (λ (xs : List Bool). totals_of p (costs_of p (λ n. not (get_or xs n false)) (deviations_in p s.slots)))
+    (sym (same_attached s.grouping e none))
+    ∙ ap (totals p) (sym (edited_groups s e ours))

@@ -6,6 +6,7 @@ use Rattle.khe_told.specs.declared.changes.Change.{Change}
 use Rattle.khe_told.specs.declared.edits.Back.{Back}
 use Rattle.khe_told.specs.declared.edits.Back.TheVariants.{By, Cut, Make, Insert}
 use Rattle.khe_told.specs.declared.edits.Edit.{Edit}
+use Rattle.khe_told.specs.declared.edits.Edit.TheVariants.{Attach, Detach}
 use Rattle.khe_told.specs.declared.refusals.Refusal.{Refusal}
 use Rattle.khe_told.specs.declared.slots.Slot.{Slot}
 use Rattle.khe_solution.specs.Backs as backs
@@ -45,6 +46,12 @@ made s e = if groups.is_of_groups e then groups.made s.grouping e else editing.m
 -- the changes of the meets and tasks that it consists of
 unfoldable pub changes : State → Edit → List Change
 changes s e = if groups.is_of_groups e then [] else changing.changes s.slots e
+
+-- an edit attaches or detaches a monitor, as no other does
+abbrev pub attaches : Edit → Bool
+attaches (Attach m) = true
+attaches (Detach m) = true
+attaches _ = false
 
 -- a record leads back from an edit of monitors and groups
 abbrev pub is_back_of_groups : Back → Bool

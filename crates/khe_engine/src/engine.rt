@@ -1,6 +1,6 @@
 //! The engine: a timetable that is edited, with its costs, marks and undo.
 
-ghost use Rattle.std.specs.Prelude.{ℕ, ◌≡◌, ◌↔◌, ◌<◌, ◌≤◌, ◌+◌, ◌-◌, ◌⊎◌, ◌∷◌, [], false, true, None, Err, List, length, IfErr, IfOk, IsOk, OnErr, OnOk};
+ghost use Rattle.std.specs.Prelude.{ℕ, ◌≡◌, ◌↔◌, ◌<◌, ◌≤◌, ◌+◌, ◌-◌, ◌⊎◌, ◌∷◌, [], false, true, None, Some, Err, List, length, IfErr, IfOk, IsOk, OnErr, OnOk};
 ghost use Rattle.khe_base.specs.Totals.{is_lower};
 ghost use Rattle.khe_base.specs.declared.limits.TheConstants.{MARKS};
 ghost use Rattle.khe_solution.specs.Refusing.{is_of_meets, refusal as meets_refusal};
@@ -12,6 +12,7 @@ ghost use Rattle.khe_engine.specs.States.{refusal, edited, made, changes};
 ghost use Rattle.khe_engine.specs.Values.{totals};
 ghost use Rattle.khe_engine.specs.Worlds.{Saved, IsFaultOf, around, closed, fresh, from_mark, grown, kept, last_cost, last_saved, trails_cost};
 
+use crate::asking::ask;
 use crate::behind::Behind;
 use crate::editing::edit_any;
 use crate::faults::EditFault;
@@ -188,6 +189,23 @@ impl<'i, F: Family> Engine<'i, F> {
             &mut self.list,
             edit,
             lowest,
+        )
+    }
+
+    /// The totals that an edit would leave, or the first refusal of it. The engine stays as it is. It takes no memory and
+    /// no step, and at most as long as the edit and its undoing take but for what costs are kept of.
+    pub fn ask(&mut self, edit: &Edit) -> Result<Totals, Refusal>
+        ensures accepted { OnOk result (refusal self.old.parts self.old.state edit.now ≡ None) }
+        ensures refused { IfErr result (λ r. refusal self.old.parts self.old.state edit.now ≡ Some r) }
+        ensures totals { IfOk result (λ t. t ≡ totals self.old.parts (edited self.old.state edit.now)) }
+        ensures same { self.new ≡ self.old }
+    {
+        ask(
+            self.inst,
+            &self.solution,
+            &mut self.listeners,
+            &mut self.list,
+            edit,
         )
     }
 

@@ -2,6 +2,7 @@
 //! monitors, marks, and the way back to each mark.
 #![tactic(auto)]
 
+mod asking;
 mod behind;
 mod edited;
 mod editing;
@@ -11,6 +12,7 @@ mod faults;
 mod late;
 mod listeners;
 mod listing;
+mod measuring;
 mod opening;
 mod regrouping;
 mod resting;

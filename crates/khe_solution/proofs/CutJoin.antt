@@ -129,7 +129,7 @@ pub add_leads : (p : Parts) (s : List Slot) (m : MeetId) (x : Slot) (d : ℕ) (g
     → Leads p (set s m.0 (with_none x g)) (change.Add m d ∷ []) (set s m.0 (with_all x d None g))
 add_leads p s m x d g l h = leads_one p s m.0 (with_none x g) (with_all x d None g) (change.Add m d) l refl refl refl h
 
-all_slot : (p : Parts) (x w : Slot) (e : ℕ) (t : Option TimeId) (g : List (Option ResourceId)) → IsSlot p x
+pub all_slot : (p : Parts) (x w : Slot) (e : ℕ) (t : Option TimeId) (g : List (Option ResourceId)) → IsSlot p x
     → w.event.0 ≡ x.event.0 → 1 ≤ e → IfSome t (λ q. q.0 + e ≤ length p.times) → Below g x.given
     → IsSlot p (with_all w e t g)
 all_slot p x w e t g i v l f b = record {
@@ -150,7 +150,7 @@ none_slot p w n = record {
 row_below : (n : ℕ) (g : List (Option ResourceId)) → Below (row n) g
 row_below n g j r h = absurd (nothing_given n j r h)
 
-self_below : (g : List (Option ResourceId)) → Below g g
+pub self_below : (g : List (Option ResourceId)) → Below g g
 self_below g j r h = h
 
 -- two slots of one event

@@ -47,7 +47,7 @@ lead_one p s k y told l e same later =
     record { turns = (is_turn p s k y told l e same later, subst (AreTold p) at later); leads = sym at }
 
 -- two slots, one after the other
-lead_two : (p : Parts) (s : List Slot) (j k : ℕ) (x y : Slot) → AreTold p s → j < length s → k < length s
+pub lead_two : (p : Parts) (s : List Slot) (j k : ℕ) (x y : Slot) → AreTold p s → j < length s → k < length s
     → (k ≡ j → ⊥) → (slot_at s j).meet.0 ≡ j → (slot_at s k).meet.0 ≡ k → emptied x ≡ emptied (slot_at s j)
     → emptied y ≡ emptied (slot_at s k) → AreTold p (set s j x) → AreTold p (set (set s j x) k y)
     → LeadTo p s (record { before = slot_at s j; after = x } ∷ record { before = slot_at s k; after = y } ∷ [])
@@ -155,7 +155,7 @@ trade_there p s a b h =
     )
 
 -- the slots after an accepted edit are told
-edited_told : (p : Parts) (s : List Slot) (e : Edit) → AreValid p s → is_of_meets e ≡ true → refusal p s e ≡ None
+pub edited_told : (p : Parts) (s : List Slot) (e : Edit) → AreValid p s → is_of_meets e ≡ true → refusal p s e ≡ None
     → AreTold p (edited s e)
 edited_told p s e v o h = subst (AreTold p) (edit_slots p s e v o h) (edit_valid p s e v o h).told
 

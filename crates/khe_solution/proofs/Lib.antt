@@ -17,6 +17,7 @@ pub mod RoomLaws
 pub mod Rows
 pub mod Spans
 pub mod Stages
+pub mod SplitLaws
 pub mod SpotLaws
 pub mod StartEdits
 pub mod StepLaws

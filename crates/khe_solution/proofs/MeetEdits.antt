@@ -14,11 +14,9 @@ use Rattle.khe_base.specs.declared.numbers.TimeId.{TimeId}
 use Rattle.khe_instance.specs.declared.parts.EventInfo.{EventInfo}
 use Rattle.khe_instance.specs.declared.parts.Parts.{Parts}
 use Rattle.khe_told.specs.Slots.{no_slot, slot_at, emptied, length_of, held, held_by, is_live, start_of}
-use Rattle.khe_told.specs.Changes.{after, after_all}
-use Rattle.khe_told.specs.Fits.{AreTold, IsSlot, AllFit}
+use Rattle.khe_told.specs.Fits.{AreTold, IsSlot}
 use Rattle.khe_told.specs.declared.slots.Slot.{Slot}
 use Rattle.khe_told.specs.declared.slots.Span.{Span}
-use Rattle.khe_told.specs.declared.changes.Change.{Change}
 use Rattle.khe_told.specs.declared.edits.Edit.TheVariants.{Split, Merge}
 use Rattle.khe_instance.specs.Lookups.{place_at}
 use Rattle.khe_solution.specs.Reading.{is_fixed_event, is_free_of, free_slot, same_resource, same_given, follows}

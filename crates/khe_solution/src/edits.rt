@@ -33,7 +33,7 @@ fn whole(told: &Told, meet: MeetId) -> Part
 }
 
 /// The time that is `count` times later.
-fn later(count: u32, time: Option<TimeId>) -> Option<TimeId>
+pub(crate) fn later(count: u32, time: Option<TimeId>) -> Option<TimeId>
     requires { IfSome time (λ t. t.0 + count < 2 ^ 32) }
     ensures { result ≡ later count time }
 {

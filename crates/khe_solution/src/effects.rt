@@ -2,14 +2,18 @@
 
 ghost use Rattle.std.specs.Prelude.{◌≡◌, ◌<◌, true, None, length, IfSome};
 ghost use Rattle.std.specs.Option.{option_map};
+ghost use Rattle.khe_told.specs.Effects.{IsCut};
 ghost use Rattle.khe_told.specs.Slots.{slot_at};
 ghost use Rattle.khe_told.specs.Valid.{AreValid};
 ghost use Rattle.khe_told.specs.declared.slots.Span.{Span};
 ghost use Rattle.khe_solution.specs.Editing.{edited};
-ghost use Rattle.khe_solution.specs.Effects.{LeadTo, restaffing, retiming};
+ghost use Rattle.khe_solution.specs.Effects.{LeadTo, cutting, receiving, restaffing, retiming, shortening};
 ghost use Rattle.khe_solution.specs.Refusing.{is_of_meets, refusal};
+ghost use Rattle.khe_solution.specs.Timetables.{StartsLater};
 
-use crate::reads::{resource_at, start_of};
+use crate::edits::later;
+use crate::reads::{duration_of, resource_at, start_of};
+use crate::slots::{Slots, new_meet};
 use khe_base::{MeetId, ResourceId, TaskId, TimeId};
 use khe_instance::Instance;
 use khe_told::{Edit, Effect, Effects, Regiven, Span, Told};
@@ -53,9 +57,52 @@ fn restaffed(told: &Told, task: TaskId, resource: Option<ResourceId>) -> Effect<
     )
 }
 
-/// What an accepted edit would make of the slots, where that is said of one or two of them: not of a Split, a Merge and
-/// an exchange of the resources of two tasks of one meet. It takes constant time.
-pub(crate) fn effects_of<'a>(inst: &Instance, told: &'a Told, edit: &Edit) -> Option<Effects<'a>>
+/// A meet would be cut: it would get shorter, and then this slot would get the rest of it.
+fn split<'a>(told: &'a Told, meet: MeetId, cut: u32, new: MeetId) -> Effects<'a>
+    requires meet { meet.0 < length told.now }
+    requires new { new.0 < length told.now }
+    requires cut { IsCut (shortening told.now meet cut) (receiving told.now meet cut new) }
+    requires later { StartsLater told.now meet cut }
+    ensures effects { result ≡ cutting told.now meet cut new }
+    ensures meet { (slot_at told.now meet.0).meet ≡ meet }
+    ensures new { (slot_at told.now new.0).meet ≡ new }
+{
+    let given = told.given(meet);
+    let start = start_of(told, meet);
+    let shorter = Span {
+        duration: cut,
+        start,
+    };
+    let rest = Span {
+        duration: duration_of(told, meet).saturating_sub(cut),
+        start: later(cut, start),
+    };
+    Effects::of_cut(
+        told.effect(meet, Some(shorter), given, None),
+        told.effect(new, Some(rest), given, None),
+    )
+}
+
+/// What an accepted edit would make of the slots, where that is said of one or two of them: not of a Merge and an
+/// exchange of the resources of two tasks of one meet. It takes constant time, but that for a Split it looks for a
+/// free slot by words of bits.
+pub(crate) fn effects_of<'a>(inst: &Instance, slots: &'a Slots, edit: &Edit) -> Option<Effects<'a>>
+    requires valid { AreValid inst.now slots.now }
+    requires ours { is_of_meets edit.now ≡ true }
+    requires accepted { refusal inst.now slots.now edit.now ≡ None }
+    ensures { IfSome result (λ ts. LeadTo inst.now slots.now ts (edited slots.now edit.now)) }
+{
+    let told = slots.told();
+    if let Edit::Split { meet, cut } = *edit {
+        inst.facts();
+        let new = new_meet(inst, slots, meet);
+        return Some(split(told, meet, cut, new));
+    }
+    effects_in_place(inst, told, edit)
+}
+
+/// The same of an edit by which no slot gets a meet or loses it.
+fn effects_in_place<'a>(inst: &Instance, told: &'a Told, edit: &Edit) -> Option<Effects<'a>>
     requires valid { AreValid inst.now told.now }
     requires ours { is_of_meets edit.now ≡ true }
     requires accepted { refusal inst.now told.now edit.now ≡ None }

@@ -207,14 +207,15 @@ impl<'i> Solution<'i> {
     }
 
     /// What an edit that is not refused would make of the slots, where that is said of one or two of them: not of a
-    /// Split, a Merge and an exchange of the resources of two tasks of one meet. It takes constant time.
+    /// Merge and an exchange of the resources of two tasks of one meet. It takes constant time, but that for a Split it
+    /// looks for the event's lowest free slot by words of bits.
     pub fn effects(&self, edit: &Edit) -> Option<Effects<'_>>
         requires ours { is_of_meets edit.now ≡ true }
         requires accepted { refusal self.now.parts self.now.slots edit.now ≡ None }
         ensures turns { IfSome result (λ ts. AreTurns self.now.parts self.now.slots ts) }
         ensures leads { IfSome result (λ ts. turned_all self.now.slots ts ≡ edited self.now.slots edit.now) }
     {
-        effects_of(self.inst, self.slots.told(), edit)
+        effects_of(self.inst, &self.slots, edit)
     }
 
     /// The record that leads back from an edit that is not refused. It takes constant time.

@@ -1,5 +1,5 @@
 use Rattle.std.proofs.Common.{◌≡◌, length}
-use Rattle.khe_engine.proofs.trials.clear.Given as goal
+use Rattle.khe_engine.proofs.measuring.clear.Given as goal
 
 abbrev pub invariant-loop : goal.invariant-loop
 invariant-loop l = record {

@@ -1,5 +1,5 @@
 -- What waits still costs nothing now, or was measured.
-use Rattle.std.proofs.Common.{◌<◌, ◌∙◌, length, length-set, slice_get, subst, sym, ap, arith}
+use Rattle.std.proofs.Common.{◌<◌, ◌∙◌, length, length-set, subst, sym, ap, arith}
 use Rattle.std.specs.Prelude.{Bool, List, false}
 use Rattle.khe_base.specs.Totals.{is_lower}
 use Rattle.khe_base.specs.declared.sums.Totals.{Totals}
@@ -8,8 +8,7 @@ use Rattle.monitor_graph.proofs.ValueLaws.{as_many}
 use Rattle.khe_engine.specs.Lower.{AreOpen}
 use Rattle.std.proofs.Common.{get_or}
 use Rattle.khe_engine.proofs.LowerLaws.{open_done, open_least, open_more, open_passed}
-use Rattle.khe_engine.proofs.SettleLaws.{served_all}
-use Rattle.khe_engine.proofs.trials.is_lower_measured.Goals as goal
+use Rattle.khe_engine.proofs.measuring.is_lower_measured.Goals as goal
 
 pub deviation-requires : goal.deviation-requires
 deviation-requires g c =
@@ -22,7 +21,6 @@ pub deviation-deviation-requires : goal.deviation-deviation-requires
 deviation-deviation-requires g c = record {
   of = c.requires.of;
   known = let a = c.in-Some.ensures.0 in let b = c.loop-lowest.invariant.monitors in omega (arith, a, b);
-  served = served_all g.F.Family.serves_kind (slice_get c.args.inst.now.monitors c.in-Some.monitor.0) c.requires.serves;
 }
 
 pub shift-requires : goal.shift-requires
@@ -47,7 +45,7 @@ pub loop-lowest-preserved : goal.loop-lowest-preserved
 loop-lowest-preserved g c =
     let v = c.loop-lowest.invariant in
     let e = c.in-Some.ensures in
-    let s = g.F.Family.told c.args.families.now in
+    let s = g.D.Deviations.slots c.args.deviations.now in
     let flags = c.loop-lowest.waiting.flags in
     let k = c.in-Some.monitor.0 in
     let some = c.if-deviation-eq0.false in
@@ -65,7 +63,7 @@ loop-lowest-preserved-then-deviation-eq0 g c =
     let v = c.loop-lowest.invariant in
     let e = c.in-Some.ensures in
     let p = c.args.inst.now in
-    let s = g.F.Family.told c.args.families.now in
+    let s = g.D.Deviations.slots c.args.deviations.now in
     let flags = c.loop-lowest.waiting.flags in
     let k = c.in-Some.monitor.0 in
     let known : k < length p.monitors = let a = e.0 in let b = v.monitors in omega (arith, a, b) in
@@ -82,11 +80,11 @@ pub returns-in_default-clause-lower : goal.returns-in_default-clause-lower
 returns-in_default-clause-lower g c =
     sym c.loop-lowest-test.true ∙ c.is_lower.ensures
     ∙ ap (λ (t : Totals). is_lower t c.args.lowest)
-    (open_done c.args.inst.now (waits_in c.loop-lowest.waiting) (g.F.Family.told c.args.families.now) c.args.graph.now
+    (open_done c.args.inst.now (waits_in c.loop-lowest.waiting) (g.D.Deviations.slots c.args.deviations.now) c.args.graph.now
     c.loop-lowest.totals c.requires.rates c.in_default.ensures.2 c.loop-lowest.invariant.open_)
 
 pub returns-clause-lower : goal.returns-clause-lower
 returns-clause-lower g c =
-    sym (open_least c.args.inst.now (waits_in c.loop-lowest.waiting) (g.F.Family.told c.args.families.now)
+    sym (open_least c.args.inst.now (waits_in c.loop-lowest.waiting) (g.D.Deviations.slots c.args.deviations.now)
     c.args.graph.now c.loop-lowest.totals c.args.lowest c.requires.rates c.loop-lowest.invariant.open_
     (sym c.is_lower.ensures ∙ c.loop-lowest-test.false))

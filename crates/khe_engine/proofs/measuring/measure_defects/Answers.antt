@@ -1,5 +1,5 @@
 -- The list has each once, so what is at its place was not measured before.
-use Rattle.std.proofs.Common.{◌+◌, List, slice_get, take, get_or, subst, sym, inl, arith}
+use Rattle.std.proofs.Common.{◌+◌, List, take, get_or, subst, sym, inl, arith}
 use Rattle.std.proofs.lemmas.List.{take_all, take_more}
 use Rattle.khe_base.specs.declared.sums.Totals.{Totals}
 use Rattle.khe_base.specs.declared.numbers.MonitorId.{MonitorId}
@@ -7,16 +7,15 @@ use Rattle.khe_told.proofs.WaitingLaws.{within}
 use Rattle.monitor_graph.proofs.ValueLaws.{as_many}
 use Rattle.khe_engine.specs.Lower.{AreBegun}
 use Rattle.khe_engine.proofs.LowerLaws.{begun_more, begun_passed, begun_start, listed_waits, not_before, open_start}
-use Rattle.khe_engine.proofs.SettleLaws.{served_all}
-use Rattle.khe_engine.proofs.trials.measure_defects.Goals as goal
-use Rattle.khe_engine.proofs.trials.measure_defects.Goals.{then-deviation-gt0, else-deviation-gt0}
+use Rattle.khe_engine.proofs.measuring.measure_defects.Goals as goal
+use Rattle.khe_engine.proofs.measuring.measure_defects.Goals.{then-deviation-gt0, else-deviation-gt0}
 
 abbrev none : MonitorId
 none = record { 0 = 0 }
 
 pub loop-monitor-init : goal.loop-monitor-init
 loop-monitor-init g c = record {
-  begun = begun_start c.args.inst.now (g.F.Family.told c.args.families.now) c.args.graph.now c.args.totals.now
+  begun = begun_start c.args.inst.now (g.D.Deviations.slots c.args.deviations.now) c.args.graph.now c.args.totals.now
       c.requires.rates c.requires.whole;
 }
 
@@ -42,8 +41,6 @@ deviation-deviation-requires g c =
     record {
       of = c.requires.of;
       known = omega (arith, l, m);
-      served = served_all g.F.Family.serves_kind (slice_get c.args.inst.now.monitors (get_or list k none).0)
-          c.requires.serves;
     }
 
 pub shift-requires-clause-known : goal.shift-requires-clause-known
@@ -76,7 +73,7 @@ loop-monitor-preserved g c = elim c.if-deviation-gt0.branch [
       let k = c.loop-monitor.monitor-index in
       let m = get_or list k none in
       let p = c.args.inst.now in
-      let s = g.F.Family.told c.args.families.now in
+      let s = g.D.Deviations.slots c.args.deviations.now in
       let b = c.args.graph.now in
       let l = within flags m.0 (listed_waits list flags k none c.as_slice-monitor-items.ensures c.loop-monitor-test.true) in
       let long = c.requires.monitors in
@@ -97,7 +94,7 @@ loop-monitor-preserved g c = elim c.if-deviation-gt0.branch [
       let k = c.loop-monitor.monitor-index in
       let m = get_or list k none in
       let p = c.args.inst.now in
-      let s = g.F.Family.told c.args.families.now in
+      let s = g.D.Deviations.slots c.args.deviations.now in
       let b = c.args.graph.now in
       let low = w.if-deviation-gt0.false in
       let e = c.deviation.ensures in
@@ -114,7 +111,7 @@ pub returns : goal.returns
 returns g c =
     let list = c.as_slice-monitor-items.result.now in
     let p = c.args.inst.now in
-    let s = g.F.Family.told c.args.families.now in
+    let s = g.D.Deviations.slots c.args.deviations.now in
     let b = c.args.graph.now in
     open_start p s b c.loop-monitor.totals list c.args.waiting.now.flags c.requires.rates c.as_slice-monitor-items.ensures
     c.requires.others
