@@ -42,8 +42,8 @@ pub trait Keeper {
     fn serves(&self, kind: Kind) -> bool
         ensures { result ≡ serves_kind kind };
 
-    /// Follows a meet slot of the told state that changes. It queues each monitor that it serves whose deviation
-    /// may have changed, and none that does not watch the change.
+    /// Follows a meet slot of the told state that changes. It queues each monitor that it serves whose
+    /// deviation may have changed, and no monitor that does not watch the change.
     fn turn<W: Waits>(&mut self, inst: &Instance, told: &Told, turn: &Turn<'_>, waits: &mut W)
         requires keeps { Keeps self.old inst.now told.now }
         requires turns { IsTurn inst.now told.now turn.now }

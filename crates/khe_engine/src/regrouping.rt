@@ -22,7 +22,7 @@ pub(crate) trait GraphWatcher: Watcher {
     fn graph(&self) -> &Graph
         ensures { result.now ≡ board self.now };
 
-    /// Makes room for this many children more in a group, as the graph does.
+    /// Makes room for this many more children in a group, as the graph does.
     fn room(&mut self, inst: &Instance, group: GroupId, n: u32) -> Result<(), NoMemory>
         requires of { Self.IsOf self.old inst.now }
         ensures of { Self.IsOf self.new inst.now }

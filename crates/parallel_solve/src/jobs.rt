@@ -41,8 +41,8 @@ pub trait SolutionJob: Sync {
     /// What it makes of the solutions of a batch with their numbers.
     ghost made: { Self → Resolved → List (ℕ × RawSolution) → Self.Made };
 
-    /// Does it for `count` of all solutions from a first one on. It passes the gate before each of them, with
-    /// its number. It fails only where memory is refused.
+    /// Does the job for `count` of all solutions from a first one on. It passes the gate before each of them,
+    /// with its number. It fails only where memory is refused.
     fn make<G: Gate>(
         &self,
         alloc: Global,
@@ -58,8 +58,8 @@ pub trait SolutionJob: Sync {
         ensures { IfOk result (λ m. m ≡ made self.now solutions.now.resolved.now
             (batch_of first count (map (λ x. x.now) solutions.now.raws.now))) };
 
-    /// About how many bytes of memory something takes that it made: a window ends once its batches come to enough. No
-    /// answer changes what is made of a batch.
+    /// About how many bytes of memory a result takes: a window ends once the results of its batches come to
+    /// enough. It has no bearing on what is made of a batch.
     fn size(&self, made: &Self::Made) -> usize;
 }
 
