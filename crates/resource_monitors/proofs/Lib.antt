@@ -7,6 +7,7 @@ pub mod FollowLaws
 pub mod ListLaws
 pub mod ListedLaws
 pub mod LoadBoundLaws
+pub mod LoadEffectLaws
 pub mod LoadFollowLaws
 pub mod LoadLaws
 pub mod LoadStepLaws

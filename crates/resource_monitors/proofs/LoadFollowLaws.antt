@@ -61,7 +61,7 @@ small_then p made s loads t h r = subst (λ n. n ≤ GREATEST_DEVIATION * p.unit
     (load_small p made s t r)
 
 -- how long a meet is, where it has the same duration
-lengths_of : (a b : Option Span) → option_map (λ (y : Span). y.duration) a ≡ option_map (λ (y : Span). y.duration) b
+pub lengths_of : (a b : Option Span) → option_map (λ (y : Span). y.duration) a ≡ option_map (λ (y : Span). y.duration) b
     → option_map_or (λ (y : Span). y.duration) a 0 ≡ option_map_or (λ (y : Span). y.duration) b 0
 lengths_of None None e = refl
 lengths_of None (Some y) e = absurd (none-some y.duration e)
@@ -72,21 +72,21 @@ module _ (p : Parts) (made : AreWellMade p) (s : List Slot) (t : SlotTurn) (turn
   same_event : t.after.event ≡ t.before.event
   same_event = ap (λ (x : Slot). x.event) turns.same
 
-  known : t.before.event.0 < length p.events
+  pub known : t.before.event.0 < length p.events
   known = subst (λ (x : Slot). x.event.0 < length p.events) turns.slot
       (let f = All-get_or (IsFrame p.events) s t.before.meet.0 no_slot turns.there
       (frames p s made.first_meets turns.told.whose) in
       slice_get_within p.events (slot_at s t.before.meet.0).event.0 f.slot.0 f.slot.1)
 
   -- the workloads by the slot's places
-  worth_before : (q : ℕ) → load_of p q t.before ≡ worths_of p t.before.event (length_of t.before) 0 t.before.given q
+  pub worth_before : (q : ℕ) → load_of p q t.before ≡ worths_of p t.before.event (length_of t.before) 0 t.before.given q
   worth_before q = load_is p q t.before (slot_before p made s t turns).empty
 
   worth_after : (q : ℕ) → load_of p q t.after ≡ worths_of p t.before.event (length_of t.after) 0 t.after.given q
   worth_after q = load_is p q t.after (slot_after p made s t turns).empty
       ∙ ap (λ e. worths_of p e (length_of t.after) 0 t.after.given q) same_event
 
-  exchanged : (q : ℕ) → workload_in p.events p.unit (duties_in (turned s t)) q
+  pub exchanged : (q : ℕ) → workload_in p.events p.unit (duties_in (turned s t)) q
       + worths_of p t.before.event (length_of t.before) 0 t.before.given q
       ≡ workload_in p.events p.unit (duties_in s) q
       + worths_of p t.before.event (length_of t.after) 0 t.after.given q

@@ -74,7 +74,7 @@ value_same p old new m r (c, there, kind, point) at h =
 
 -- and is no greater than any deviation
 module _ (p : Parts) (made : AreWellMade p) where
-  outside_small : (load : ℕ) → load ≤ GREATEST_DEVIATION * p.unit → (rule : Rule) → IsRule p rule
+  pub outside_small : (load : ℕ) → load ≤ GREATEST_DEVIATION * p.unit → (rule : Rule) → IsRule p rule
       → outside p rule load ≤ GREATEST_DEVIATION
   outside_small load small (LimitWorkload least greatest) h =
       measured-small p (λ t. 0) load made.limits made.unit.positive (λ t. omega arith) small

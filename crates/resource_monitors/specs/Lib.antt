@@ -1,5 +1,6 @@
 pub mod Cells
 pub mod Clashes
+pub mod Effects
 pub mod Kept
 pub mod KindsAtCells
 pub mod Loads

@@ -1,5 +1,6 @@
 //! Limit Workload.
 
+use crate::load_effects::{queue_effect, value_after};
 use crate::load_posts::lists_of;
 use crate::load_turns::turn_loads;
 use crate::load_values::value;
@@ -26,7 +27,6 @@ pub struct Workloads {
 }
 
 impl Keeper for Workloads {
-    ghost use Rattle.khe_told.specs.Effects.{AreCut};
     ghost use Rattle.resource_monitors.specs.Loads.{AreKept, is_on_workload};
 
     ghost serves_kind = { is_on_workload };
@@ -35,7 +35,7 @@ impl Keeper for Workloads {
 
     ghost Keeps = { λ f p s. AreKept p s f.loads.items f.lists.items };
 
-    ghost Foresees = { λ f p ts. AreCut ts };
+    ghost Foresees = { λ f p ts. Unit {0} };
 
     fn open(alloc: Global, inst: &Instance) -> Result<Workloads, NoMemory> {
         let lists = lists_of(alloc, inst)?;
@@ -64,7 +64,8 @@ impl Keeper for Workloads {
 
     fn foresees(&self, inst: &Instance, effects: &Effects<'_>) -> bool {
         let _ = inst;
-        effects.is_cut()
+        let _ = effects;
+        true
     }
 
     fn queue_affected<W: Waits>(
@@ -76,8 +77,15 @@ impl Keeper for Workloads {
     ) {
         inst.facts();
         let _ = told;
-        let _ = effects;
-        let _ = waits;
+        if effects.is_cut() {
+            return;
+        }
+        let lists = self.lists.as_slice();
+        let (first, second) = effects.slots();
+        queue_effect(inst, lists, first, waits);
+        if let Some(second) = second {
+            queue_effect(inst, lists, second, waits);
+        }
     }
 
     fn deviation_after(
@@ -87,8 +95,8 @@ impl Keeper for Workloads {
         effects: &Effects<'_>,
         monitor: MonitorId,
     ) -> u64 {
-        let _ = told;
-        let _ = effects;
-        self.deviation(inst, monitor)
+        inst.facts();
+        let of = inst.monitor(monitor);
+        value_after(inst, told, effects, self.loads.as_slice(), of)
     }
 }

@@ -26,7 +26,7 @@ pub(crate) fn value(inst: &Instance, loads: &[u128], monitor: Monitor) -> u64
 }
 
 /// How far a workload, in parts of one over the unit, lies outside the bounds of a rule.
-fn measure(inst: &Instance, rule: &Rule, load: u128) -> u64
+pub(crate) fn measure(inst: &Instance, rule: &Rule, load: u128) -> u64
     requires rule { IsRule inst.now rule.now }
     requires load { load ≤ GREATEST_DEVIATION * inst.now.unit }
     ensures { result ≡ outside inst.now rule.now load }
