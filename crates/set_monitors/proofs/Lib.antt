@@ -1,10 +1,13 @@
 pub mod BetweenLaws
 pub mod CandidateLaws
+pub mod CutLaws
 pub mod EventRankLaws
+pub mod ForeseenLaws
 pub mod HolderLaws
 pub mod HolderTurns
 pub mod LinkCountLaws
 pub mod LinkTurnLaws
+pub mod OrderCutLaws
 pub mod OrderPairLaws
 pub mod OrderTurnLaws
 pub mod OrderWaitLaws

@@ -1,7 +1,7 @@
 -- Counts of starts and one more turn.
 use Rattle.std.proofs.Common.{ℕ, ◌≡◌, ◌≤◌, ◌<◌, ◌+◌, ◌*◌, ◌∙◌, ◌⊎◌, inl, inr, zero, suc, Bool, true, false, cond}
 use Rattle.std.proofs.Common.{Option}
-use Rattle.std.proofs.Common.{Some, None, List, [], ◌∷◌, length, set, take, drop, slice_get, refl, sym, ap, subst}
+use Rattle.std.proofs.Common.{Some, None, List, [], ◌∷◌, length, map, set, take, drop, slice_get, refl, sym, ap, subst}
 use Rattle.std.proofs.Common.{arith}
 use Rattle.std.proofs.Common.{sum_by}
 use Rattle.std.specs.Prelude.{All, replicate}
@@ -9,17 +9,19 @@ use Rattle.std.proofs.lemmas.Bool.{cases_eq}
 use Rattle.std.proofs.lemmas.List.{length-map, length-set}
 use Rattle.std.proofs.lemmas.List.Elements.{All-weaker}
 use Rattle.std.proofs.lemmas.List.Sums.{sum_by-cons, sum_by-le, sum_by_more}
-use Rattle.std.proofs.lemmas.Option.{get_or_from_slice_get, same_Some, slice_get_within}
+use Rattle.std.proofs.lemmas.Option.{get_or_from_slice_get, none-some, same_Some, slice_get_within}
 use Rattle.khe_base.specs.Bounds.{count_outside}
 use Rattle.khe_base.specs.BoundsLaws.{count_outside_small}
 use Rattle.khe_base.specs.declared.limits.TheConstants.{DURATION, GREATEST_DEVIATION, LISTED, NUMBER}
 use Rattle.khe_base.specs.declared.numbers.TimeId.{TimeId}
 use Rattle.khe_base.proofs.ListLemmas.{drop-there, get-other, get-set, there}
 use Rattle.khe_instance.specs.EventDeviation.{starts_in}
-use Rattle.khe_instance.specs.WellMade.{AreWellMade}
+use Rattle.khe_instance.specs.KindLaws.{is_kind}
+use Rattle.khe_instance.specs.WellMade.{AreWellMade, IsMonitor}
 use Rattle.khe_instance.specs.declared.parts.EventInfo.{EventInfo}
 use Rattle.khe_instance.specs.declared.parts.Parts.{Parts}
 use Rattle.khe_instance.specs.declared.points.Monitor.{Monitor}
+use Rattle.khe_instance.specs.declared.rules.Kind.TheVariants as kind
 use Rattle.khe_instance.specs.declared.rules.Spread.{Spread}
 use Rattle.khe_told.specs.Fits.{AreTold}
 use Rattle.khe_told.specs.Slots.{emptied, no_meets}
@@ -173,6 +175,53 @@ turned_next before later spreads old counts outside total i q n new sum at here 
         let sum_is = counted (sum_by part_then (take i spreads) + sum_by part (drop (i + 1) spreads))
         (omega (arith, before_it, left)) in
         omega (arith, sum_is, made)
+
+-- one more group counts for what it would after a change of its count
+pub follows_next : (then : List Bool → ℕ → ℕ) (spreads : List Spread) (counts : List ℕ) (f : List Bool → ℕ)
+    (total sum i : ℕ) (q : Spread) (n : ℕ) → slice_get spreads i ≡ Some q → slice_get counts i ≡ Some n
+    → AreCounts f spreads counts
+    → ((rest : ℕ) → total ≡ rest + count_outside n q.min q.max
+    → sum ≡ rest + count_outside (then q.group n) q.min q.max)
+    → total ≡ spread_by (λ g. then g (f g)) (take i spreads) + spread_by f (drop i spreads)
+    → sum ≡ spread_by (λ g. then g (f g)) (take (i + 1) spreads) + spread_by f (drop (i + 1) spreads)
+follows_next then spreads counts f total sum i q n at here are counted before_it =
+    let part = λ (a : Spread). count_outside (f a.group) a.min a.max in
+    let part_then = λ (a : Spread). count_outside (then a.group (f a.group)) a.min a.max in
+    let l = slice_get_within spreads i q at in
+    let fq : f q.group ≡ n = same_Some (f q.group) n (sym (are i q at) ∙ here) in
+    let left : sum_by part (drop i spreads) ≡ count_outside n q.min q.max + sum_by part (drop (i + 1) spreads) =
+    ap (sum_by part) (drop-there spreads i q at) ∙ sum_by-cons part q (drop (i + 1) spreads)
+    ∙ ap (λ k. count_outside k q.min q.max + sum_by part (drop (i + 1) spreads)) fq in
+    let made : sum_by part_then (take (i + 1) spreads)
+    ≡ sum_by part_then (take i spreads) + count_outside (then q.group n) q.min q.max =
+    sum_by_more part_then spreads i q l
+    ∙ ap (λ a. sum_by part_then (take i spreads) + part_then a) (get_or_from_slice_get spreads i q q at)
+    ∙ ap (λ k. sum_by part_then (take i spreads) + count_outside (then q.group k) q.min q.max) fq in
+    let sum_is = counted (sum_by part_then (take i spreads) + sum_by part (drop (i + 1) spreads))
+    (omega (arith, before_it, left)) in
+    omega (arith, sum_is, made)
+
+-- what would be kept for a state
+pub spread_of_state : (p : Parts) (m : Monitor) (s : List Slot) (spreads : List Spread) (total : ℕ) → AreWellMade p
+    → AreTold p s → IsMonitor p m → is_kind m.kind kind.SpreadEvents ≡ true → spreads ≡ spreads_of p m
+    → All (λ (q : Spread). q.min ≤ NUMBER) spreads → length spreads ≤ LISTED
+    → total ≡ spread_by (started p m s) spreads
+    → IsSpread p m s (map (λ (q : Spread). started p m s q.group) (spreads_of p m)) total
+spread_of_state p m s spreads total made told monitor serves is least listed whole = record {
+  monitor = monitor;
+  serves = serves;
+  amount = length-map (spreads_of p m) (λ (q : Spread). started p m s q.group);
+  counts = all (spreads_of p m);
+  few = λ times. started_few p m s times made told;
+  outside = whole ∙ ap (spread_by (started p m s)) is;
+  small = let a = spread_small (started p m s) spreads least listed (λ times. started_few p m s times made told) in
+      omega (arith, a, whole);
+}
+  where
+    all : (qs : List Spread) → AreCounts (started p m s) qs (map (λ (q : Spread). started p m s q.group) qs)
+    all [] k q h = absurd (none-some q h)
+    all (x ∷ qs) zero q h = ap (λ (y : Spread). Some (started p m s y.group)) (same_Some x q h)
+    all (x ∷ qs) (suc k) q h = all qs k q h
 
 -- counts of nothing
 pub nothing_at : (n k : ℕ) → k < n → ◌≡◌ {A = Option ℕ} (slice_get {X = ℕ} (replicate n 0) k) (Some 0)

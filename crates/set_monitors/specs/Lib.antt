@@ -1,5 +1,6 @@
 pub mod AvoidSplitAssignments
 pub mod Candidates
+pub mod Foreseeing
 pub mod LeastTrees
 pub mod LinkCounts
 pub mod LinkElsewhereLaws

@@ -188,6 +188,22 @@ spread_elsewhere p m s k x counts outside l same named kept =
     spread_same p m s (set s k x) counts outside
     (λ times. sum_elsewhere p m (λ (y : Slot). span_share (one_in times) y.span) s k x l same named) kept
 
+-- what a slot counts for, by its start
+pub one_at_start : (times : List Bool) (o : Option Span)
+    → span_share (one_in times) o ≡ cond (starts_in times (start_in o)) 1 0
+one_at_start times None = refl
+one_at_start times (Some y) = refl
+
+-- and after a turn that keeps the start
+pub spread_unaffected : (p : Parts) (m : Monitor) (s : List Slot) (t : SlotTurn) (counts : List ℕ) (outside : ℕ)
+    → start_in t.before.span ≡ start_in t.after.span → IsTurn p s t → IsSpread p m s counts outside
+    → IsSpread p m (turned s t) counts outside
+spread_unaffected p m s t counts outside h turns kept =
+    spread_same p m s (turned s t) counts outside
+    (λ times. turn_kept p m (λ (y : Slot). span_share (one_in times) y.span) s t turns
+    (one_at_start times t.after.span ∙ ap (λ o. cond {A = ℕ} (starts_in times o) 1 0) (sym h)
+    ∙ sym (one_at_start times t.before.span))) kept
+
 -- and after a turn that keeps the meet
 pub spread_unheard : (p : Parts) (m : Monitor) (s : List Slot) (t : SlotTurn) (counts : List ℕ) (outside : ℕ)
     → KeepsMeet t → IsTurn p s t → IsSpread p m s counts outside → IsSpread p m (turned s t) counts outside

@@ -14,12 +14,13 @@ ghost use Rattle.set_monitors.specs.AvoidSplitAssignments.{is_first, is_last, wi
 ghost use Rattle.set_monitors.specs.RolePlaces.{AreRolePlaces};
 
 use crate::candidates::candidates;
+use crate::foreseeing::keep_given;
 use crate::role_places::{RolePlace, place_of, role_places};
-use event_monitors::{Counted, Gauge};
+use event_monitors::{Counted, Gauge, gives_other};
 use family_keepers::Keeping;
 use khe_base::{NoMemory, ResourceId, Seq, beside};
 use khe_instance::{Instance, Kind, Monitor};
-use khe_told::{Told, Turn};
+use khe_told::{Effect, Effects, Told, Turn};
 use std::alloc::Global;
 
 /// The family of Avoid Split Assignments: a monitor's deviation is how many resources have a task
@@ -49,6 +50,7 @@ impl Gauge for Holders {
     ghost use Rattle.khe_instance.specs.declared.rules.Kind.TheVariants as kind;
     ghost use Rattle.set_monitors.specs.AvoidSplitAssignments.{IsShared, shared_elsewhere, shared_exact};
     ghost use Rattle.set_monitors.specs.AvoidSplitAssignments.{shared_unheard};
+    ghost use Rattle.set_monitors.specs.Foreseeing.{AreCutOrKeep, KeepsGiven};
     ghost use Rattle.set_monitors.specs.RolePlaces.{AreRolePlaces};
 
     ghost serves_kind = { λ k. is_kind k kind.AvoidSplitAssignments };
@@ -93,12 +95,53 @@ impl Gauge for Holders {
         u64::from(self.above.saturating_sub(1))
     }
 
+    ghost Foresees = { AreCutOrKeep KeepsGiven };
+
+    fn foresees(effects: &Effects<'_>) -> bool {
+        keep_given(effects)
+    }
+
+    fn observes(effect: &Effect<'_>) -> bool {
+        gives_other(effect)
+    }
+
+    ghost IsUnaffected = { λ g p m t. ⊥ };
+
+    fn is_affected(&self, inst: &Instance, monitor: Monitor, effect: &Effect<'_>) -> bool {
+        let _ = inst;
+        let _ = monitor;
+        let _ = effect;
+        true
+    }
+
+    fn observes_cuts() -> bool {
+        false
+    }
+
+    fn observes_cut(&self) -> bool {
+        false
+    }
+
+    fn value_after(
+        &self,
+        inst: &Instance,
+        monitor: Monitor,
+        told: &Told,
+        effects: &Effects<'_>,
+    ) -> u64 {
+        let _ = told;
+        let _ = effects;
+        self.value(inst, monitor)
+    }
+
     ghost exact = { λ g p m s k. shared_exact p m s g.candidates g.counts.items g.above k.0 };
 
     ghost deaf = { λ g p m s t h turns kept. (
       shared_unheard p m s t g.candidates g.counts.items g.above h turns kept.0,
       kept.1,
     ) };
+
+    ghost unaffected = { λ g p m s t h turns kept. absurd h };
 
     ghost elsewhere = { λ g p m s k x l same named kept.
         (shared_elsewhere p m s k x g.candidates g.counts.items g.above l same named kept.0, kept.1) };

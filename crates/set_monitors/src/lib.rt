@@ -8,6 +8,7 @@
 mod avoid_split_assignments;
 mod candidates;
 mod event_ranks;
+mod foreseeing;
 mod least_trees;
 mod link_events;
 mod link_runs;
@@ -20,6 +21,7 @@ mod order_posts;
 mod order_waits;
 mod pair_lists;
 mod role_places;
+mod spread_effects;
 mod spread_events;
 
 pub use avoid_split_assignments::{AvoidSplitAssignments, Holders};

@@ -5,6 +5,7 @@ ghost use Rattle.khe_told.specs.Slots.{no_meets};
 ghost use Rattle.khe_told.specs.Turns.{IsTurn, turned};
 ghost use Rattle.set_monitors.specs.MeetEdges.{AreEdges, IsEdges};
 
+use crate::foreseeing::keep_meets;
 use crate::meet_edges::Edges;
 use crate::order_pairs::value;
 use crate::order_posts::posts_of;
@@ -39,6 +40,8 @@ pub struct OrderEdges {
 impl Keeper for OrderEdges {
     ghost use Rattle.std.specs.Prelude.{◌≡◌};
     ghost use Rattle.event_monitors.specs.Posts.{ArePosts, AreListed};
+    ghost use Rattle.event_monitors.specs.Shares.{KeepsMeet};
+    ghost use Rattle.set_monitors.specs.Foreseeing.{AreCutOrKeep};
     ghost use Rattle.set_monitors.specs.MeetEdges.{AreEdges, AreShort};
     ghost use Rattle.set_monitors.specs.OrderPairs.{is_order};
 
@@ -48,7 +51,7 @@ impl Keeper for OrderEdges {
 
     ghost Keeps = { λ f p s. ArePosts p is_order f.posts × AreListed p f.posts f.lists × AreEdges p f.lists s f.edges.items × AreShort s };
 
-    ghost Foresees = { λ f p ts. ⊥ };
+    ghost Foresees = { λ f p ts. AreCutOrKeep KeepsMeet ts };
 
     fn open(alloc: Global, inst: &Instance) -> Result<OrderEdges, NoMemory> {
         let posts = posts_of(alloc, inst)?;
@@ -89,8 +92,7 @@ impl Keeper for OrderEdges {
 
     fn foresees(&self, inst: &Instance, effects: &Effects<'_>) -> bool {
         let _ = inst;
-        let _ = effects;
-        false
+        keep_meets(effects)
     }
 
     fn queue_affected<W: Waits>(
@@ -100,10 +102,10 @@ impl Keeper for OrderEdges {
         effects: &Effects<'_>,
         waits: &mut W,
     ) {
-        let _ = inst;
         let _ = told;
         let _ = effects;
         let _ = waits;
+        inst.facts();
     }
 
     fn deviation_after(
@@ -115,6 +117,7 @@ impl Keeper for OrderEdges {
     ) -> u64 {
         let _ = told;
         let _ = effects;
+        inst.facts();
         self.deviation(inst, monitor)
     }
 }

@@ -7,11 +7,12 @@ ghost use Rattle.khe_instance.specs.EventDeviation.{starts_in};
 ghost use Rattle.khe_instance.specs.WellMade.{IsMonitor};
 ghost use Rattle.set_monitors.specs.SpreadEvents.{AreCounts, AreFew, counted_then, spread_by, spreads_of, start_in};
 
-use event_monitors::{Counted, Gauge, moves_meet};
+use crate::spread_effects::{outside_after, shifts_of};
+use event_monitors::{Counted, Gauge, alters_meet, moves_meet};
 use family_keepers::Keeping;
 use khe_base::{IdSet, NoMemory, TimeId, count_out};
 use khe_instance::{Instance, Kind, Monitor, Rule, Spread};
-use khe_told::{Span, Told, Turn};
+use khe_told::{Effect, Effects, Span, Told, Turn};
 use std::alloc::Global;
 
 /// The family of Spread Events: a monitor's deviation is, over the time groups that its constraint
@@ -34,7 +35,7 @@ impl Gauge for Starts {
     ghost use Rattle.khe_instance.specs.KindLaws.{is_kind};
     ghost use Rattle.khe_instance.specs.declared.rules.Kind.TheVariants as kind;
     ghost use Rattle.event_monitors.specs.Shares.{KeepsMeet};
-    ghost use Rattle.set_monitors.specs.SpreadEvents.{IsSpread, spread_elsewhere, spread_exact, spread_unheard};
+    ghost use Rattle.set_monitors.specs.SpreadEvents.{IsSpread, spread_elsewhere, spread_exact, spread_unaffected, spread_unheard, start_in};
 
     ghost serves_kind = { λ k. is_kind k kind.SpreadEvents };
 
@@ -81,9 +82,52 @@ impl Gauge for Starts {
         self.outside
     }
 
+    ghost Foresees = { λ ts. Unit {0} };
+
+    fn foresees(effects: &Effects<'_>) -> bool {
+        let _ = effects;
+        true
+    }
+
+    fn observes(effect: &Effect<'_>) -> bool {
+        alters_meet(effect)
+    }
+
+    ghost IsUnaffected = { λ g p m t. start_in t.before.span ≡ start_in t.after.span };
+
+    fn is_affected(&self, inst: &Instance, monitor: Monitor, effect: &Effect<'_>) -> bool {
+        let _ = inst;
+        let _ = monitor;
+        !is_same(start_in(effect.before()), start_in(effect.after()))
+    }
+
+    fn observes_cuts() -> bool {
+        true
+    }
+
+    fn observes_cut(&self) -> bool {
+        true
+    }
+
+    fn value_after(
+        &self,
+        inst: &Instance,
+        monitor: Monitor,
+        told: &Told,
+        effects: &Effects<'_>,
+    ) -> u64 {
+        let _ = told;
+        inst.facts();
+        let spreads = listed(inst, monitor);
+        let shifts = shifts_of(inst, monitor, effects);
+        outside_after(spreads, self.counts.as_slice(), self.outside, shifts)
+    }
+
     ghost exact = { λ g p m s k. spread_exact p m s g.counts.items g.outside k };
 
     ghost deaf = { λ g p m s t h turns kept. spread_unheard p m s t g.counts.items g.outside h turns kept };
+
+    ghost unaffected = { λ g p m s t h turns kept. spread_unaffected p m s t g.counts.items g.outside h turns kept };
 
     ghost elsewhere = { λ g p m s k x l same named kept. spread_elsewhere p m s k x g.counts.items g.outside l same named kept };
 }
@@ -103,7 +147,7 @@ fn listed(inst: &Instance, monitor: Monitor) -> &[Spread]
 }
 
 // When a meet starts, if it has a start.
-fn start_in(span: Option<Span>) -> Option<TimeId>
+pub(crate) fn start_in(span: Option<Span>) -> Option<TimeId>
     ensures { result ≡ start_in span }
 {
     match span {
@@ -120,7 +164,7 @@ fn is_same(before: Option<TimeId>, after: Option<TimeId>) -> bool
 }
 
 // Whether a start is given and is in a set of times.
-fn starts_in(times: &IdSet, start: Option<TimeId>) -> bool
+pub(crate) fn starts_in(times: &IdSet, start: Option<TimeId>) -> bool
     ensures { result ≡ starts_in times.now start }
 {
     match start {
