@@ -36,7 +36,7 @@ use Rattle.repair_moves.proofs.PickedLaws.{false_unless}
 use Rattle.repair_moves.proofs.SlotLaws.{live_event}
 use Rattle.repair_moves.proofs.TaskLaws.{place_there}
 
-none_is : {A : Type 0} (o : Option A) → is_none o ≡ true → o ≡ None
+pub none_is : {A : Type 0} (o : Option A) → is_none o ≡ true → o ≡ None
 none_is None h = refl
 none_is (Some a) h = absurd (true-false (sym h))
 
@@ -46,11 +46,11 @@ unfolding is_accepted
 accepted_is p s e h = none_is (refusal p s e) h
 
 -- a row of which no test holds
-passing : (row : List (Bool × Refusal)) → AllPass row → is_none (first_refusal row) ≡ true
+pub passing : (row : List (Bool × Refusal)) → AllPass row → is_none (first_refusal row) ≡ true
 passing [] a = refl
 passing ((test, r) ∷ rest) a = ap (λ b. is_none (cond b (Some r) (first_refusal rest))) a.0 ∙ passing rest a.1
 
-yes : (b : Bool) → b ≡ true → not b ≡ false
+pub yes : (b : Bool) → b ≡ true → not b ≡ false
 yes b h = ap not h
 
 -- a time move

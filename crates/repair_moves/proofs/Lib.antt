@@ -1,3 +1,4 @@
+pub mod AlikeLaws
 pub mod ChoiceLaws
 pub mod ItemLaws
 pub mod LiveTasks

@@ -1,3 +1,4 @@
+pub mod Alike
 pub mod Cursors
 pub mod Examples
 pub mod Items

@@ -2,6 +2,7 @@
 //! one after another and without a list of them.
 #![tactic(auto)]
 
+mod alike;
 mod choosing;
 mod cursors;
 mod examples;

@@ -1,12 +1,13 @@
 //! The walk over a list of moves.
 
-ghost use Rattle.std.specs.Prelude.{◌≡◌, ◌<◌, ◌+◌, ◌^◌, None, IfSome, true, length};
+ghost use Rattle.std.specs.Prelude.{◌≡◌, ◌<◌, ◌+◌, ◌^◌, None, IfSome, true, [], length};
 ghost use Rattle.khe_solution.specs.Refusing.{is_of_meets, refusal};
 ghost use Rattle.repair_moves.specs.Cursors.{left_of_part, ahead, IsCursor, IsNext};
-ghost use Rattle.repair_moves.specs.Moves.{moves as moves_at, part_from};
+ghost use Rattle.repair_moves.specs.Moves.{choices_from, moves as moves_at, part_from};
 ghost use Rattle.repair_moves.specs.declared.parts.Part.TheVariants.{TaskMoves, TradeMoves};
 ghost use Rattle.repair_moves.specs.Walks.{IsMove, IsNextIn, IsNextOf};
 
+use crate::alike::are_alike;
 use crate::choosing::{edit_of, next_choice, next_resource, next_trade, task_move};
 use crate::cursors::{Cursor, Spot};
 use crate::items::next_item;
@@ -112,6 +113,28 @@ fn next_of_item(
     })
 }
 
+/// The first move of a meet or task, which isn't looked for where it is like one that has none.
+fn next_unless_alike(
+    inst: &Instance,
+    solution: &Solution<'_>,
+    point: Point,
+    part: Part,
+    item: u32,
+    bare: Option<u32>,
+) -> Option<Found>
+    requires of { solution.now.parts ≡ inst.now }
+    requires bare { IfSome bare (λ n. choices_from inst.now solution.now.slots point part n 0 ≡ []) }
+    ensures next { IsNextOf inst.now solution.now.slots point part item 0 result }
+    ensures moves { IfSome result (λ f. IsMove inst.now solution.now.slots f.edit) }
+{
+    if let Some(bare) = bare {
+        if are_alike(inst, solution, part, bare, item) {
+            return None;
+        }
+    }
+    next_of_item(inst, solution, point, part, item, 0)
+}
+
 /// The first move of a part from a slot on.
 fn next_from_item(
     inst: &Instance,
@@ -127,10 +150,14 @@ fn next_from_item(
     ensures small { IfSome result (λ f. f.spot.item + 1 < 2 ^ 32) }
 {
     let mut from = from;
+    let mut bare = None;
     while let Some(item) = next_item(inst, solution, rule, point, part, from) {
-        match next_of_item(inst, solution, point, part, item, 0) {
+        match next_unless_alike(inst, solution, point, part, item, bare) {
             Some(found) => return Some(found),
-            None => from = item + 1,
+            None => {
+                bare = Some(item);
+                from = item + 1;
+            }
         }
     }
     None
@@ -186,7 +213,9 @@ pub fn moves(inst: &Instance, solution: &Solution<'_>, monitor: MonitorId) -> Cu
 /// choices of a meet or task that is preassigned are gone past at once; the tasks of a resource and
 /// those without one are found by words of 64, and so are live meets. Live meets to swap with, resources
 /// and tasks of live meets to trade with are looked at one by one, each resource of another type in
-/// constant time, and of an event group's meets as many events as lie between.
+/// constant time, and of an event group's meets as many events as lie between. A task that has the
+/// resource of the one before it, which has no trade, and a place of the same type is gone past at once;
+/// so is a meet with the event, times and resources of the one before it, which cannot be joined.
 pub fn next_move(inst: &Instance, solution: &Solution<'_>, cursor: &mut Cursor) -> Option<Edit>
     requires of { solution.now.parts ≡ inst.now }
     requires cursor { IsCursor inst.now cursor.old }
