@@ -16,7 +16,7 @@ mod talks;
 
 use comparing::{Tally, compare_manual, note_unrun};
 use pages::compare_pages;
-use reading::compare_reading;
+use reading::compare_reports;
 use std::alloc::Global;
 use std::fs;
 use std::process::ExitCode;
@@ -38,7 +38,7 @@ fn compare_all<R: Threads + Files + Print + Alloc + Sync>(
         Err(_) => note_unrun(rt, tally, "manual.md"),
     }
     compare_pages(rt, alloc, tally);
-    compare_reading(rt, alloc, tally);
+    compare_reports(rt, alloc, tally);
 }
 
 fn main(rt: HostRuntime) -> ExitCode {

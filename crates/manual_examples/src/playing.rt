@@ -134,8 +134,18 @@ fn run<R: Threads + Files + Sync>(
     alloc: Global,
     command: &str,
 ) -> Result<(u8, MemorySink), NoMemory> {
+    run_in_room(rt, alloc, command, ROOM)
+}
+
+/// Runs `khe` with the words of a command, where the given number of bytes can be written.
+pub(crate) fn run_in_room<R: Threads + Files + Sync>(
+    rt: &R,
+    alloc: Global,
+    command: &str,
+    room: u64,
+) -> Result<(u8, MemorySink), NoMemory> {
     let words = words_of(alloc, command)?;
-    let mut sink = MemorySink::new(alloc, ROOM, 1_000_000, Seq::new(alloc))?;
+    let mut sink = MemorySink::new(alloc, room, 1_000_000, Seq::new(alloc))?;
     let mut shelf = FileShelf::new(rt);
     let status = khe(
         rt,

@@ -1,18 +1,12 @@
-//! What the program does that has the commands `evaluate` and `check` alone.
+//! Reports on archives, beside those of a reference program, and what is written before other statuses.
 
 use crate::comparing::{Tally, note_unrun};
-use crate::ends::{End, Ran, note_run};
-use crate::playing::{ROOM, words_of};
-use khe_base::Seq;
-use khe_io::{FileShelf, MemorySink, OpenGate};
-use reading_commands::read_command;
+use crate::ends::{End, note_run};
+use crate::playing::{ROOM, run_in_room};
 use std::alloc::Global;
 use std::fs;
 use std::rt::Files;
 use std::thread::Threads;
-
-/// A command that `khe` has and this program has not.
-const OTHER: &str = "khe repair examples/first.xml 0 --depth 1 --budget 1";
 
 /// Commands, the status that each is to end with, and the file with the report that is to come. The reports are those
 /// of a reference program that was written apart from this one.
@@ -34,6 +28,9 @@ const REPORTS: &[(&str, u8, &str)] = &[
     ),
 ];
 
+/// Words that ask for nothing.
+const OTHER: &str = "khe repair examples/first.xml 0 --depth 1";
+
 /// Commands, how many bytes can be written, the status that each is to end with, and what is to be written.
 const LINES: &[(&str, u64, u8, &str)] = &[
     ("khe evaluate nothing", ROOM, 4, ""),
@@ -41,8 +38,8 @@ const LINES: &[(&str, u64, u8, &str)] = &[
     (OTHER, 5, 5, "khe: "),
 ];
 
-/// Compares what comes of commands of `khe-reader` with what is to come.
-pub(crate) fn compare_reading<R: Threads + Files + Print + Alloc + Sync>(
+/// Compares the reports and lines that commands write with those that are to come.
+pub(crate) fn compare_reports<R: Threads + Files + Print + Alloc + Sync>(
     rt: &R,
     alloc: Global,
     tally: &mut Tally,
@@ -55,7 +52,7 @@ pub(crate) fn compare_reading<R: Threads + Files + Print + Alloc + Sync>(
             status: *status,
             text,
         };
-        let ran = run(rt, alloc, command, *room);
+        let ran = run_in_room(rt, alloc, command, *room);
         note_run(rt, tally, command, &ran, wanted);
     }
 }
@@ -75,25 +72,9 @@ fn compare_report<R: Threads + Files + Print + Alloc + Sync>(
                 status,
                 text: text.as_str(),
             };
-            let ran = run(rt, alloc, command, ROOM);
+            let ran = run_in_room(rt, alloc, command, ROOM);
             note_run(rt, tally, command, &ran, wanted);
         }
         Err(_) => note_unrun(rt, tally, file),
     }
-}
-
-/// Carries out a command that reads an archive, with a sink that has room for the given number of bytes.
-fn run<R: Threads + Files + Sync>(rt: &R, alloc: Global, command: &str, room: u64) -> Ran {
-    let words = words_of(alloc, command)?;
-    let mut sink = MemorySink::new(alloc, room, 1_000_000, Seq::new(alloc))?;
-    let mut shelf = FileShelf::new(rt);
-    let status = read_command(
-        rt,
-        alloc,
-        words.as_slice(),
-        &mut shelf,
-        &mut sink,
-        &OpenGate,
-    );
-    Ok((status.0, sink))
 }

@@ -14,9 +14,6 @@ abbrev pub text_of : Bool → Reading → List ℕ
 text_of all (evaluable a r) = report all a r
 text_of all (refused refusal) = refusal_line refusal
 
-abbrev pub bytes_of : Bool → Reading → List ℕ
-bytes_of all reading = encode_utf8_all (text_of all reading)
-
 -- a reading of the bytes with this status and this text
 pub record IsAnswered (all : Bool) (bytes : List ℕ) (status : ℕ) (text : List ℕ) : Type 0 where
   pub reading : Reading

@@ -1,10 +1,8 @@
-//! The commands that only read an archive, `evaluate` and `check`, for the program that has all commands and for one
-//! that has these two alone: what an archive under a name leads to, the report on its solutions and its canonical
-//! spelling, and the status that a run ends with.
+//! The commands that only read an archive, `evaluate` and `check`: what an archive under a name leads to, the report on
+//! its solutions and its canonical spelling, and the status that a run ends with.
 #![tactic(auto)]
 
 mod answers;
-mod commands;
 mod crews;
 mod outcomes;
 mod report_parts;
@@ -13,7 +11,6 @@ mod spellings;
 mod statuses;
 
 pub use answers::{Answer, Stop, answer_to};
-pub use commands::read_command;
 pub use crews::Crew;
 pub use reports::write_report;
 pub use spellings::{put_spelling, write_spelling};
