@@ -4,7 +4,8 @@ use Rattle.std.specs.Prelude.{ℕ, ◌≡◌, ◌≤◌, ◌⊎◌, ◌↔◌, f
 use Rattle.khe_base.specs.Digits.{long_number_of, number_of}
 use Rattle.khe_base.specs.declared.limits.TheConstants.{DIGITS}
 use Rattle.command_words.specs.Words.{Asked, asked}
-use Rattle.command_words.specs.Commands.{Choice, Command, Form, Said, any, below, commands, digits, flag, number, text, up_to}
+use Rattle.command_words.specs.Commands.{Choice, Command, Form, Said, any, below, commands, digits, flag, number}
+use Rattle.command_words.specs.Commands.{text, up_to}
 
 -- a word in form says this
 abbrev pub Says : Form → List ℕ → Said → Type 0

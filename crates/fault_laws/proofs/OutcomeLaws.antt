@@ -10,8 +10,8 @@ use Rattle.fault_laws.specs.Told.{IsFaultLine, TellsLeastFault}
 use Rattle.text_fault_laws.specs.Rows.{IsLeastFault}
 use Rattle.archive_reading.specs.Reading.{refused}
 use Rattle.archive_reading.specs.Refusals.{refusal_line}
-use Rattle.command_words.specs.Words.{Asked, archive_of, checking, constructing, evaluating, making, matching, repairing}
-use Rattle.command_words.specs.Words.{running, scripting, solving}
+use Rattle.command_words.specs.Words.{Asked, archive_of, checking, constructing, evaluating, making, matching}
+use Rattle.command_words.specs.Words.{repairing, running, scripting, solving}
 use Rattle.archive_reading.specs.declared.refusals.Refusal.{Refusal}
 use Rattle.archive_reading.specs.declared.refusals.Refusal.TheVariants.{Fault}
 use Rattle.xhstt_text.specs.Document.{Spelled}

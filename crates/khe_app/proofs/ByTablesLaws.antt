@@ -5,7 +5,8 @@ use Rattle.command_words.proofs.TableLaws.{unread}
 use Rattle.command_words.specs.Words.{Asked, archive_of, asked, checking, constructing, evaluating, making, matching}
 use Rattle.command_words.specs.Words.{repairing, running, scripting, solving}
 use Rattle.khe_app.proofs.RowLaws.{by_machines, by_rows}
-use Rattle.khe_app.specs.ByTables.{EndedByTables, IsOutcomeByRows, IsOutcomeByTables, IsOutcomeThere, IsOutcomeWith, Shelf}
+use Rattle.khe_app.specs.ByTables.{EndedByTables, IsOutcomeByRows, IsOutcomeByTables, IsOutcomeThere, IsOutcomeWith}
+use Rattle.khe_app.specs.ByTables.{Shelf}
 use Rattle.khe_app.specs.Ends.{EndedBy}
 use Rattle.khe_app.specs.Outcome.{IsConstructTo, IsConstructed, IsMatchTo, IsMatchedFrom}
 use Rattle.khe_app.specs.Outcome.{IsOutcomeOf, IsPlayTo, IsPlayed, IsRepairTo, IsRepaired, IsSolveTo, IsSolvedFrom}

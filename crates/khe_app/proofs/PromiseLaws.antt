@@ -6,11 +6,12 @@ use Rattle.archive_generator.specs.Made.{made}
 use Rattle.archive_reading.specs.Reading.{IsReadingOf, Reading, evaluable, refused}
 use Rattle.archive_reading.specs.Starting.{Start, barred, begins, start_in, start_of}
 use Rattle.command_words.specs.Words.{is_read}
-use Rattle.command_words.specs.Words.{Asked, checking, constructing, evaluating, making, matching, repairing, running, scripting, solving}
+use Rattle.command_words.specs.Words.{Asked, checking, constructing, evaluating, making, matching, repairing, running}
+use Rattle.command_words.specs.Words.{scripting, solving}
 use Rattle.generator_laws.proofs.MadeLaws.{made_resolved}
 use Rattle.khe_app.proofs.DeficitLaws.{tell}
 use Rattle.khe_app.proofs.StartLaws.{started_by}
-use Rattle.khe_app.proofs.TextLaws.{checks, repairs, solves}
+use Rattle.khe_app.proofs.TextLaws.{checks, matches, repairs, solves}
 use Rattle.khe_app.proofs.WordLaws.{IsAskable}
 use Rattle.khe_app.specs.Deficits.{DeficitsTell}
 use Rattle.khe_app.specs.Ends.{EndedOf}
@@ -31,14 +32,17 @@ use Rattle.xhstt_text.specs.Document.{Spelled}
 use Rattle.xhstt_writer.proofs.Written.{canonical_spells}
 use Rattle.xhstt_writer.specs.Archives.{canonical}
 
--- a repair or a solve
+-- a repair, a solve or a matching
 pub no_dearer : (a : Option Asked) (h : Holdings) (before after : Option (List ℕ)) → EndedOf a h before after 0
     → IsNoDearer a h before after
 no_dearer None h before after ended = tt
 no_dearer (Some (evaluating archive all)) h before after ended = tt
 no_dearer (Some (scripting archive number script tied)) h before after ended = tt
 no_dearer (Some (checking archive)) h before after ended = tt
-no_dearer (Some (matching archive number time rtype)) h before after ended = tt
+no_dearer (Some (matching archive number time rtype)) None before after ended = tt
+no_dearer (Some (matching archive number time rtype)) (Some under) before after (text, is, took) =
+    let found = matches archive number time rtype under text is in
+    (found.0, encode_utf8_all text, found.1, took, found.2)
 no_dearer (Some (constructing archive number chains)) h before after ended = tt
 no_dearer (Some (making seed size)) h before after ended = tt
 no_dearer (Some (running seed size)) h before after ended = tt
@@ -104,7 +108,8 @@ reading_answers tied number bytes text content (evaluable a r) status ran is sma
 reading_answers tied number bytes text content (refused x) status ran is small h = other status 3 ran h.0 (inl refl)
 
 play_answers : (tied : Bool) (number : ℕ) (o script : Option (List ℕ)) (text content : List ℕ) (status : ℕ)
-    → IsRunStatus status → script ≡ Some content → length content ≤ SCRIPT_BYTES → IsPlayTo tied number o script status text
+    → IsRunStatus status → script ≡ Some content → length content ≤ SCRIPT_BYTES
+    → IsPlayTo tied number o script status text
     → (bytes : List ℕ) × (o ≡ Some bytes) × AreAnswers tied number bytes content (encode_utf8_all text)
 play_answers tied number None script text content status ran there small h = other status 4 ran h.0 (inr refl)
 play_answers tied number (Some bytes) script text content status ran there small h = (

@@ -1,20 +1,25 @@
 -- What is read of the texts that the program writes, by the outcomes that the program has.
+use Rattle.std.proofs.Common.{inl, inr}
 use Rattle.std.proofs.Common.{ℕ, ◌≡◌, ◌∙◌, Option, Some, None, List, refl, sym, subst, arith}
 use Rattle.std.proofs.Common.{encode_utf8_all}
 use Rattle.khe_app.specs.Outcome.{IsOutcomeOf, IsRepairIn, IsRepairOf, IsRepairTo, IsSolveIn}
 use Rattle.archive_reading.specs.Reading.{IsReadingOf}
-use Rattle.khe_app.specs.Outcome.{IsSolveOf, IsSolveTo}
+use Rattle.khe_app.specs.Outcome.{IsMatchIn, IsMatchOf, IsMatchTo, IsSolveOf, IsSolveTo}
 use Rattle.reading_commands.specs.Outcome.{IsSpellingTo}
 use Rattle.archive_reading.specs.Starting.{Start, barred, begins, start_of}
 use Rattle.archive_reading.specs.Reading.{Reading, evaluable, refused}
 use Rattle.reading_commands.specs.Outcome.{spelling_of, status_of}
-use Rattle.command_words.specs.Words.{checking, repairing, solving}
+use Rattle.command_words.specs.Words.{checking, matching, repairing, solving}
+use Rattle.khe_instance.specs.declared.parts.Parts.{Parts}
+use Rattle.khe_instance.specs.declared.states.Plain.{Plain}
+use Rattle.match_run.specs.Texts.{IsMatchText}
 use Rattle.text_laws.specs.Read.{IsArchiveOf}
+use Rattle.text_laws.proofs.MatchedLaws.{match_no_dearer}
 use Rattle.text_laws.proofs.RepairedLaws.{read_again, repair_no_dearer, solve_no_dearer}
 use Rattle.xhstt_resolve.specs.declared.resolving.Resolved.{Resolved}
 use Rattle.xhstt_shape.specs.declared.records.Archive.{Archive}
 use Rattle.xhstt_writer.specs.Archives.{canonical}
-use Rattle.khe_app.specs.Texts.{IsCheckOf, IsRepairFrom, IsSolveFrom}
+use Rattle.khe_app.specs.Texts.{IsCheckOf, IsMatchFrom, IsRepairFrom, IsSolveFrom}
 use Rattle.khe_app.proofs.ReadingLaws.{reading_by, spelled_by}
 use Rattle.khe_app.proofs.StartLaws.{started_by}
 
@@ -121,3 +126,48 @@ pub solves : (name : List ℕ) (number depth budget jobs : ℕ) (under : List �
     → IsOutcomeOf (Some (solving name number depth budget jobs)) under 0 text
     → (bytes : List ℕ) × (under name ≡ Some bytes) × IsSolveFrom number jobs bytes (encode_utf8_all text)
 solves name number depth budget jobs under text is = solved_by number depth budget jobs (under name) text is
+
+-- what is matched
+match_text : (number time rtype : ℕ) (bytes text : List ℕ) (a : Archive) (r : Resolved) (p : Parts) (plain : Plain)
+    → IsReadingOf bytes (evaluable a r) → start_of a r number ≡ begins p plain
+    → IsMatchText a number p plain time rtype text → IsMatchFrom number bytes (encode_utf8_all text)
+match_text number time rtype bytes text a r p plain is e h =
+    let x = started_by a r number p plain e in
+    record {
+      archive = a;
+      instances = r;
+      read = is;
+      parts = p;
+      timetable = plain;
+      solution = x;
+      matched = match_no_dearer bytes a r number p plain time rtype text (spelled_by bytes a r is).archive x h;
+    }
+
+match_of : (number time rtype : ℕ) (bytes text : List ℕ) (a : Archive) (r : Resolved) (s : Start)
+    → IsReadingOf bytes (evaluable a r) → start_of a r number ≡ s → IsMatchOf a number time rtype s 0 text
+    → IsMatchFrom number bytes (encode_utf8_all text)
+match_of number time rtype bytes text a r (barred f) is e h = let z = h.0 in absurd (omega (arith, z))
+match_of number time rtype bytes text a r (begins p plain) is e (inl h) = let z = h.1.0 in absurd (omega (arith, z))
+match_of number time rtype bytes text a r (begins p plain) is e (inr (inl h)) =
+    let z = h.2.0 in absurd (omega (arith, z))
+match_of number time rtype bytes text a r (begins p plain) is e (inr (inr (t, y, inl h))) =
+    let z = h.2.0 in absurd (omega (arith, z))
+match_of number time rtype bytes text a r (begins p plain) is e (inr (inr (t, y, inr h))) =
+    match_text number time rtype bytes text a r p plain is e h.1
+
+match_by : (number time rtype : ℕ) (bytes text : List ℕ) (x : Reading) → IsReadingOf bytes x
+    → IsMatchIn number time rtype x 0 text → IsMatchFrom number bytes (encode_utf8_all text)
+match_by number time rtype bytes text (evaluable a r) is h =
+    match_of number time rtype bytes text a r (start_of a r number) is refl h
+match_by number time rtype bytes text (refused f) is h = let z = h.0 in absurd (omega (arith, z))
+
+matched_by : (number time rtype : ℕ) (o : Option (List ℕ)) (text : List ℕ) → IsMatchTo number time rtype o 0 text
+    → (bytes : List ℕ) × (o ≡ Some bytes) × IsMatchFrom number bytes (encode_utf8_all text)
+matched_by number time rtype None text is = let s = is.0 in absurd (omega (arith, s))
+matched_by number time rtype (Some bytes) text is =
+    (bytes, refl, match_by number time rtype bytes text is.reading is.is is.matched)
+
+pub matches : (name : List ℕ) (number time rtype : ℕ) (under : List ℕ → Option (List ℕ)) (text : List ℕ)
+    → IsOutcomeOf (Some (matching name number time rtype)) under 0 text
+    → (bytes : List ℕ) × (under name ≡ Some bytes) × IsMatchFrom number bytes (encode_utf8_all text)
+matches name number time rtype under text is = matched_by number time rtype (under name) text is

@@ -1,11 +1,11 @@
--- What was taken of a run, in the words of the promise: a repair or a solve that is no dearer, deficits whose demands
--- outnumber their supplies, and archives that are read back.
+-- What was taken of a run, in the words of the promise: a repair, a solve or a matching that is no dearer,
+-- deficits whose demands outnumber their supplies, and archives that are read back.
 use Rattle.std.specs.Prelude.{ℕ, ◌≡◌, ◌≤◌, Bool, Option, Some, IfSome, List, length, encode_utf8_all}
 use Rattle.archive_reading.specs.Reading.{IsReadingOf, evaluable}
-use Rattle.command_words.specs.Words.{Asked, checking, making, repairing, scripting, solving}
+use Rattle.command_words.specs.Words.{Asked, checking, making, matching, repairing, scripting, solving}
 use Rattle.khe_app.specs.Deficits.{DeficitsTell}
 use Rattle.khe_app.specs.Outcome.{answers_of}
-use Rattle.khe_app.specs.Texts.{IsCheckOf, IsReadAsMade, IsRepairFrom, IsSolveFrom}
+use Rattle.khe_app.specs.Texts.{IsCheckOf, IsMatchFrom, IsReadAsMade, IsRepairFrom, IsSolveFrom}
 use Rattle.khe_base.specs.declared.limits.TheConstants.{SCRIPT_BYTES}
 use Rattle.khe_engine.specs.Openings.{IsStateOf}
 use Rattle.khe_engine.specs.States.{State}
@@ -17,8 +17,8 @@ use Rattle.text_laws.specs.Read.{IsTimetableOf}
 use Rattle.xhstt_resolve.specs.declared.resolving.Resolved.{Resolved}
 use Rattle.xhstt_shape.specs.declared.records.Archive.{Archive}
 
--- after a repair or a solve, the bytes that the sink took are read as the archive under the name with the entries of
--- that solution changed, which costs what the line says, and no more than before
+-- after a repair, a solve or a matching, the bytes that the sink took are read as the archive under the name with the
+-- entries of that solution changed, which costs what the last line says, and no more than before
 abbrev pub IsNoDearer : Option Asked → Holdings → Option (List ℕ) → Option (List ℕ) → Type 0
 IsNoDearer (Some (repairing archive number depth budget)) holdings before after =
     IfSome holdings (λ under. (bytes : List ℕ) × (written : List ℕ) × (under archive ≡ Some bytes)
@@ -26,6 +26,9 @@ IsNoDearer (Some (repairing archive number depth budget)) holdings before after 
 IsNoDearer (Some (solving archive number depth budget jobs)) holdings before after =
     IfSome holdings (λ under. (bytes : List ℕ) × (written : List ℕ) × (under archive ≡ Some bytes)
     × Took before after written × IsSolveFrom number jobs bytes written)
+IsNoDearer (Some (matching archive number time rtype)) holdings before after =
+    IfSome holdings (λ under. (bytes : List ℕ) × (written : List ℕ) × (under archive ≡ Some bytes)
+    × Took before after written × IsMatchFrom number bytes written)
 IsNoDearer _ holdings before after = Unit {0}
 
 -- these bytes are the answers to a script on the solution with this number that was read from the archive's bytes, and

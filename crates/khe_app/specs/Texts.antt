@@ -1,4 +1,4 @@
--- What is read of the texts that `check`, `repair`, `solve` and `make` write.
+-- What is read of the texts that `check`, `repair`, `solve`, `match` and `make` write.
 use Rattle.std.specs.Prelude.{ℕ, ◌≡◌, ◌≤◌, Option, Some, List, length, encode_utf8_all}
 use Rattle.archive_generator.specs.Made.{made}
 use Rattle.khe_base.specs.declared.limits.TheConstants.{ARCHIVE_BYTES}
@@ -9,6 +9,7 @@ use Rattle.reading_commands.specs.Outcome.{IsRespelled}
 use Rattle.archive_reading.specs.Reading.{IsReadingOf, evaluable}
 use Rattle.command_words.specs.Words.{checking, repairing, solving}
 use Rattle.text_laws.specs.Read.{IsArchiveOf, IsTimetableOf}
+use Rattle.text_laws.specs.Matched.{IsReadMatched}
 use Rattle.text_laws.specs.Repaired.{IsReadRepaired, IsReadSolved}
 use Rattle.text_laws.specs.Rewritten.{IsReadAgain}
 use Rattle.xhstt_resolve.specs.declared.resolving.Resolved.{Resolved}
@@ -45,6 +46,16 @@ pub record IsSolveFrom (number jobs : ℕ) (bytes written : List ℕ) : Type 0 w
   pub timetable : Plain
   pub solution : IsTimetableOf archive instances number parts timetable
   pub solved : IsReadSolved archive instances number parts timetable jobs written
+
+-- or with a matching of its tasks in its place
+pub record IsMatchFrom (number : ℕ) (bytes written : List ℕ) : Type 0 where
+  pub archive : Archive
+  pub instances : Resolved
+  pub read : IsReadingOf bytes (evaluable archive instances)
+  pub parts : Parts
+  pub timetable : Plain
+  pub solution : IsTimetableOf archive instances number parts timetable
+  pub matched : IsReadMatched archive instances number parts timetable written
 
 -- bytes are read as the archive that is made from a seed, of a size, with the instances that it resolves to
 pub record IsReadAsMade (seed size : ℕ) (bytes : List ℕ) : Type 0 where

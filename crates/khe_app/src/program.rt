@@ -111,8 +111,8 @@ pub fn khe<R: Threads + Sync, S: Shelf, K: Sink, G: Gate>(
     // bytes lead to by the rows of faults and the grammar of texts.
     ensures by_tables { IsDecided result.0 → EndedByTables (map string_bytes words.now) (S.holdings shelf.old) (K.taken out.old) (K.taken out.new) result.0 }
 
-    // After a repair or a solve the taken bytes are read as the archive with that solution's entries changed, which
-    // costs what the line says and no more than before.
+    // After a repair, a solve or a matching the taken bytes are read as the archive with that solution's entries
+    // changed, which costs what the last line says and no more than before.
     ensures no_dearer { result.0 ≡ 0 → IsNoDearer (asked (map string_bytes words.now)) (S.holdings shelf.old) (K.taken out.old) (K.taken out.new) }
 
     // Each answer to `deficit` among the taken bytes names demands that outnumber the supplies that they may have

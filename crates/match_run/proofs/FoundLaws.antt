@@ -4,6 +4,7 @@ use Rattle.std.specs.Prelude.{IfErr, IfOk}
 use Rattle.khe_engine.specs.Openings.{IsStateOf}
 use Rattle.khe_engine.specs.States.{State}
 use Rattle.khe_engine.specs.Values.{totals}
+use Rattle.khe_instance.specs.States.{IsValid}
 use Rattle.khe_instance.specs.declared.parts.Parts.{Parts}
 use Rattle.khe_instance.specs.declared.states.Plain.{Plain}
 use Rattle.resource_match.specs.declared.choices.TheConstants.{MATCHED_TASKS}
@@ -19,17 +20,19 @@ pub found_by : {E : Type 0} (p q : Parts) (plain : Plain) (s : State) (time rtyp
     → IfOk r (λ f. length (matched q s.slots time rtype) ≤ MATCHED_TASKS)
     → IfOk r (λ f. IsMatched q s time rtype f.matched)
     → IfOk r (λ f. IsStateOf q f.plain (left_by q s time rtype f.matched))
+    → IfOk r (λ f. IsValid q f.plain)
     → IfOk r (λ f. f.totals ≡ totals q (left_by q s time rtype f.matched))
     → IfOk r (IsFound p plain time rtype)
-found_by p q plain s time rtype (Ok f) e is few is_matched listed costs = record {
+found_by p q plain s time rtype (Ok f) e is few is_matched listed valid costs = record {
   state = s;
   begins = is;
   few = subst (λ (x : Parts). length (matched x s.slots time rtype) ≤ MATCHED_TASKS) e few;
   matched_is = subst (λ (x : Parts). IsMatched x s time rtype f.matched) e is_matched;
   listed = subst (λ (x : Parts). IsStateOf x f.plain (left_by x s time rtype f.matched)) e listed;
+  valid = subst (λ (x : Parts). IsValid x f.plain) e valid;
   totals_are = subst (λ (x : Parts). f.totals ≡ totals x (left_by x s time rtype f.matched)) e costs;
 }
-found_by p q plain s time rtype (Err f) e is few is_matched listed costs = tt
+found_by p q plain s time rtype (Err f) e is few is_matched listed valid costs = tt
 
 by_fault : (p q : Parts) (plain : Plain) (s : State) (time rtype : ℕ) (f : MatchFault) → q ≡ p → IsStateOf p plain s
     → ((n : ℕ) → f ≡ TooManyTasks n → (n ≡ length (matched q s.slots time rtype)) × (MATCHED_TASKS < n))

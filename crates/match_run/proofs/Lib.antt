@@ -1,3 +1,4 @@
+pub mod CommentLaws
 pub mod FoundLaws
 pub mod LineLaws
 pub mod TextLaws

@@ -4,6 +4,7 @@
 #![tactic(auto)]
 
 mod finding;
+mod laws;
 mod lines;
 mod sending;
 

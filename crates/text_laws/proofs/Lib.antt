@@ -1,5 +1,6 @@
-pub mod ReadLaws
+pub mod MatchedLaws
 pub mod PlacedLaws
+pub mod ReadLaws
+pub mod RepairedLaws
 pub mod ResolvedLaws
 pub mod StateLaws
-pub mod RepairedLaws

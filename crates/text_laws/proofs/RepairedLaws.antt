@@ -167,7 +167,7 @@ module _ (a : Archive) (r : Resolved) (number : ℕ) (p : Parts) (plain : Plain)
       )
 
 -- the same with the costs of the timetable on the line
-line_costs : (f : Totals → List ℕ) (a : Archive) (r : Resolved) (number : ℕ) (p : Parts) (bytes : List ℕ) (t : Plain)
+pub line_costs : (f : Totals → List ℕ) (a : Archive) (r : Resolved) (number : ℕ) (p : Parts) (bytes : List ℕ) (t : Plain)
     (u : Totals) → totals p t ≡ u → IsWrittenWith (f u) a r number p bytes t
     → IsWrittenWith (f (totals p t)) a r number p bytes t
 line_costs f a r number p bytes t u e h = subst (λ v. IsWrittenWith (f v) a r number p bytes t) (sym e) h

@@ -1,3 +1,4 @@
+pub mod Matched
 pub mod Read
-pub mod Rewritten
 pub mod Repaired
+pub mod Rewritten

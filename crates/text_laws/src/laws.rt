@@ -1,6 +1,7 @@
 //! Laws on the texts that are written, each the contract of a function that does nothing: no program calls these.
 #![allow(dead_code)]
 
+ghost use Rattle.text_laws.specs.Matched.{MatchingsAreReadNoDearer};
 ghost use Rattle.text_laws.specs.Repaired.{RepairsAreReadNoDearer, SolvesAreReadNoDearer};
 ghost use Rattle.text_laws.specs.Rewritten.{SpellingsAreReadAgain};
 
@@ -19,4 +20,9 @@ fn a_repair_is_read_no_dearer()
 // So is what a solve is written as.
 fn a_solve_is_read_no_dearer()
     ensures { SolvesAreReadNoDearer }
+{}
+
+// And so is what a matching is written as.
+fn a_matching_is_read_no_dearer()
+    ensures { MatchingsAreReadNoDearer }
 {}
