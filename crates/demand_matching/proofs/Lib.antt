@@ -17,6 +17,7 @@ pub mod OrderLemmas
 pub mod Picks
 pub mod Searches
 pub mod Supplies
+pub mod Seen
 pub mod Shifts
 pub mod Maxima
 pub mod Keeps

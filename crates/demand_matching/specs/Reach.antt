@@ -1,5 +1,6 @@
 -- The demands that are reached from those left out, from one to another that has a supply which it may have.
-use Rattle.std.specs.Prelude.{ℕ, ◌<◌, ◌≤◌, ◌≡◌, ◌≢◌, Bool, true, length, List, None, Some, slice_index}
+use Rattle.std.specs.Prelude.{ℕ, ◌*◌, ◌<◌, ◌≤◌, ◌≡◌, ◌≢◌, Bool, true, false, length, List, None, Some, slice_index}
+use Rattle.khe_base.specs.Bits.{is_set}
 use Rattle.khe_base.specs.IdSet.{has_member}
 use Rattle.demand_matching.specs.declared.reach.Reach.{Reach}
 use Rattle.demand_matching.specs.declared.table.Table.{Table}
@@ -28,6 +29,12 @@ abbrev pub AreAll : Table → ℕ → Type 0
 AreAll t met = (r : Reach) → IsReach t r.demands r.marks → met ≤ length r.demands
     → (demand supply by : ℕ) → has_member r.marks demand ≡ true → may_take (domains_of t) demand supply ≡ true
     → owner_of t supply ≡ Some by → has_member r.marks by ≡ true
+
+-- whoever has a supply whose bit is not set is reached
+pub record AreSeen (t : Table) (marks : List Bool) (bits : List ℕ) : Type 0 where
+  pub room : supplies_in t ≤ 64 * length bits
+  pub seen : (supply by : ℕ) → supply < supplies_in t → is_set bits supply ≡ false → owner_of t supply ≡ Some by
+      → has_member marks by ≡ true
 
 -- more are reached
 pub record Reaches (t : Table) (r r' : Reach) : Type 0 where

@@ -147,10 +147,10 @@ impl Matching {
     /// each set that has this excess.
     ///
     /// Where the deficit is 0 it is empty, and is answered in constant time and without memory.
-    /// Else it takes memory for a mark of one bit for each demand and for the demands of the set,
-    /// and time in proportion to these, to a 64th of all demands, and to the supplies that the
-    /// followed demands may have: first the unserved ones, and none any more once all demands of
-    /// the kept set were met.
+    /// Else it takes memory for one bit for each demand and for each supply and for the demands of the
+    /// set, and time in proportion to these and, for each demand that is followed, to the resources
+    /// that it may have and a 64th of the times: first the unserved ones, and none any more once all
+    /// demands of the kept set were met. Each supply is looked at once.
     pub fn hall_set(&self) -> Result<Seq<u32>, NoMemory>
         ensures ascending { IfOk result (λ hall. IsStrictlyIncreasing hall) }
         ensures least { IfOk result (λ hall. IsHallSet self.now (λ demand. list_any (λ member. member == demand) hall)) }
@@ -166,9 +166,10 @@ impl Matching {
     /// has this excess. It has a mark for each demand, and none is marked where the deficit is 0.
     ///
     /// It fails where memory is refused; the matching stays as it was in any case. It takes memory for
-    /// a mark of one bit for each demand and for the demands of the set, and time in proportion to
-    /// these, to a 64th of all demands, and to the supplies that the followed demands may
-    /// have: first the unserved ones, and none any more once all demands of the kept set were met.
+    /// one bit for each demand and for each supply and for the demands of the set, and time in
+    /// proportion to these and, for each demand that is followed, to the resources that it may have
+    /// and a 64th of the times: first the unserved ones, and none any more once all demands of the
+    /// kept set were met. Each supply is looked at once.
     pub fn hall_marks(&self) -> Result<IdSet, NoMemory>
         ensures size { IfOk result (λ marks. length marks ≡ length self.now.demands) }
         ensures least { IfOk result (λ marks. IsHallSet self.now (has_member marks)) }

@@ -1,16 +1,20 @@
 //! Which demands compete with the unserved ones for supplies.
 
 ghost use Rattle.std.specs.Prelude.{◌≡◌, ◌+◌, ◌*◌, ◌<◌, ℕ, true, length, slice_index, Some, IfOk, OnOk};
+ghost use Rattle.khe_base.specs.Bits.{has_bit};
 ghost use Rattle.khe_base.specs.IdSet.{has_member};
 ghost use Rattle.demand_matching.specs.Domains.{domain_of, is_present, is_picked};
 ghost use Rattle.demand_matching.specs.Listing.{IsListing};
 ghost use Rattle.demand_matching.specs.Matched.{IsMaximum};
-ghost use Rattle.demand_matching.specs.Reach.{IsReach, Reaches, IsInAll, AreAll, IsReached};
+ghost use Rattle.demand_matching.specs.Reach.{AreAll, AreSeen, IsInAll, IsReach, IsReached, Reaches};
 ghost use Rattle.demand_matching.specs.Table.{IsTable, domains_of, may_take, owner_of, demands_in, supplies_in};
 
 use crate::Domain;
+use crate::empty::all_bits;
 use crate::order::Order;
 use crate::table::Table;
+use crate::windows::window;
+use khe_base::bits::{clear_bit, has_bit};
 use khe_base::{IdSet, NoMemory, Seq};
 use std::alloc::Global;
 
@@ -76,36 +80,105 @@ impl Reach {
         Ok(())
     }
 
-    /// All are reached that have supplies of one resource which a demand that was reached may have.
+    /// Reaches the demand that has the supply at a place of a word of supplies that were not looked at, if its bit is
+    /// set, and marks the supply as looked at.
+    fn follow_bit(
+        &mut self,
+        table: &Table,
+        unseen: &mut Vec<u64>,
+        from: u32,
+        word: u64,
+        first: usize,
+        i: u32,
+    ) -> Result<(), NoMemory>
+        requires table { IsTable table.now }
+        requires reach { IsReach table.now self.old.demands self.old.marks }
+        requires seen { AreSeen table.now self.old.marks unseen.old.items }
+        requires from { has_member self.old.marks from ≡ true }
+        requires place { i < 64 }
+        requires below { has_bit word i ≡ true → first + i < supplies_in table.now }
+        requires allowed { has_bit word i ≡ true → may_take (domains_of table.now) from (first + i) ≡ true }
+        ensures reaches { OnOk result (Reaches table.now self.old self.new) }
+        ensures seen { OnOk result (AreSeen table.now self.new.marks unseen.new.items) }
+        ensures reached { OnOk result ((by : ℕ) → has_bit word i ≡ true → owner_of table.now (first + i) ≡ Some by
+            → has_member self.new.marks by ≡ true) }
+    {
+        if !has_bit(word, i) {
+            return Ok(());
+        }
+        let supply = first + i as usize;
+        self.follow_supply(table, from, supply)?;
+        clear_bit(unseen, supply);
+        Ok(())
+    }
+
+    /// Reaches the demands that have the supplies whose bits are set in a word.
+    fn follow_word(
+        &mut self,
+        table: &Table,
+        unseen: &mut Vec<u64>,
+        from: u32,
+        word: u64,
+        first: usize,
+    ) -> Result<(), NoMemory>
+        requires table { IsTable table.now }
+        requires reach { IsReach table.now self.old.demands self.old.marks }
+        requires seen { AreSeen table.now self.old.marks unseen.old.items }
+        requires from { has_member self.old.marks from ≡ true }
+        requires below { (i : ℕ) → i < 64 → has_bit word i ≡ true → first + i < supplies_in table.now }
+        requires allowed { (i : ℕ) → i < 64 → has_bit word i ≡ true
+            → may_take (domains_of table.now) from (first + i) ≡ true }
+        ensures reaches { OnOk result (Reaches table.now self.old self.new) }
+        ensures seen { OnOk result (AreSeen table.now self.new.marks unseen.new.items) }
+        ensures reached { OnOk result ((i by : ℕ) → i < 64 → has_bit word i ≡ true
+            → owner_of table.now (first + i) ≡ Some by → has_member self.new.marks by ≡ true) }
+    {
+        if word == 0 {
+            return Ok(());
+        }
+        for i in 0..64u32 {
+            self.follow_bit(table, unseen, from, word, first, i)?;
+        }
+        Ok(())
+    }
+
+    /// All are reached that have supplies of one resource which a demand that was reached may have. Only supplies that
+    /// were not looked at before are looked at, by words of 64.
     fn follow_at(
         &mut self,
         table: &Table,
+        unseen: &mut Vec<u64>,
         from: u32,
         domain: Domain,
         resource: u32,
     ) -> Result<(), NoMemory>
         requires table { IsTable table.now }
         requires reach { IsReach table.now self.old.demands self.old.marks }
+        requires seen { AreSeen table.now self.old.marks unseen.old.items }
         requires from { has_member self.old.marks from ≡ true }
         requires domain { domain_of (domains_of table.now) from ≡ Some domain }
         requires picked { is_picked table.now.resources domain.resources resource ≡ true }
         ensures reaches { OnOk result (Reaches table.now self.old self.new) }
+        ensures seen { OnOk result (AreSeen table.now self.new.marks unseen.new.items) }
         ensures reached { OnOk result ((time by : ℕ) → is_picked table.now.times domain.times time ≡ true → owner_of table.now (resource * table.now.last + domain.shift + time) ≡ Some by → has_member self.new.marks by ≡ true) }
     {
         let row = table.row(domain, resource);
-        for i in 0..table.times.count(domain.times) {
-            let supply = row + table.times.number(domain.times, i) as usize;
-            self.follow_supply(table, from, supply)?;
+        let (first, end) = table.times.span(domain.times);
+        for k in first..end {
+            let word = window(unseen.as_slice(), row + 64 * k) & table.times.word(domain.times, k);
+            self.follow_word(table, unseen, from, word, row + 64 * k)?;
         }
         Ok(())
     }
 
     /// All are reached that have supplies which a demand that was reached may have.
-    fn follow(&mut self, table: &Table, from: u32) -> Result<(), NoMemory>
+    fn follow(&mut self, table: &Table, unseen: &mut Vec<u64>, from: u32) -> Result<(), NoMemory>
         requires table { IsTable table.now }
         requires reach { IsReach table.now self.old.demands self.old.marks }
+        requires seen { AreSeen table.now self.old.marks unseen.old.items }
         requires from { has_member self.old.marks from ≡ true }
         ensures reaches { OnOk result (Reaches table.now self.old self.new) }
+        ensures seen { OnOk result (AreSeen table.now self.new.marks unseen.new.items) }
         ensures reached { OnOk result ((supply by : ℕ) → may_take (domains_of table.now) from supply ≡ true → owner_of table.now supply ≡ Some by → has_member self.new.marks by ≡ true) }
     {
         let Some(domain) = table.demands[from as usize] else {
@@ -113,7 +186,7 @@ impl Reach {
         };
         for i in 0..table.resources.count(domain.resources) {
             let resource = table.resources.number(domain.resources, i);
-            self.follow_at(table, from, domain, resource)?;
+            self.follow_at(table, unseen, from, domain, resource)?;
         }
         Ok(())
     }
@@ -132,9 +205,15 @@ impl Reach {
     }
 
     /// Reaches all demands that can be reached. It ends as soon as `most` are, which is a bound on them.
-    fn follow_all(&mut self, table: &Table, most: u32) -> Result<(), NoMemory>
+    fn follow_all(
+        &mut self,
+        table: &Table,
+        unseen: &mut Vec<u64>,
+        most: u32,
+    ) -> Result<(), NoMemory>
         requires table { IsTable table.now }
         requires reach { IsReach table.now self.old.demands self.old.marks }
+        requires seen { AreSeen table.now self.old.marks unseen.old.items }
         requires all { AreAll table.now most }
         ensures reaches { OnOk result (Reaches table.now self.old self.new) }
         ensures reached { OnOk result ((demand supply by : ℕ) → has_member self.new.marks demand ≡ true → may_take (domains_of table.now) demand supply ≡ true → owner_of table.now supply ≡ Some by → has_member self.new.marks by ≡ true) }
@@ -145,7 +224,7 @@ impl Reach {
                 return Ok(());
             }
             let demand = self.demand(k);
-            self.follow(table, demand)?;
+            self.follow(table, unseen, demand)?;
             k += 1;
         }
         Ok(())
@@ -164,8 +243,9 @@ pub(crate) fn reached_from(
     requires { IsMaximum table.now order.now left met }
     ensures { IfOk result (IsReached table.now) }
 {
+    let mut unseen = all_bits(alloc, (table.owners.len() + 63) / 64)?;
     let mut reach = Reach::new(alloc, table.demands.len() as u32)?;
     reach.start(table, order, left)?;
-    reach.follow_all(table, met)?;
+    reach.follow_all(table, &mut unseen, met)?;
     Ok(reach.marks)
 }

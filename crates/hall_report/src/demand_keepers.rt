@@ -17,7 +17,7 @@ pub trait DemandKeeper: Family {
 
     /// The demands that compete: those in every set whose excess is the deficit, in their order.
     ///
-    /// It fails only where memory is refused. It takes memory for a mark for each demand, and time in
+    /// It fails only where memory is refused. It takes memory for a mark for each demand and each supply, and time in
     /// proportion to the demands.
     fn hall(&self) -> Result<Seq<Demand>, NoMemory>
         ensures { (p : Parts) → Self.IsOf self.now p → IfOk result (AreCompeting p (Self.told self.now)) };

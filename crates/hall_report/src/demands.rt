@@ -114,8 +114,8 @@ impl Demands {
     /// The least set of demands whose excess is the deficit, in their order.
     ///
     /// Where the deficit is 0 it is empty, and is answered in constant time and without memory. Else it
-    /// takes memory for a mark for each demand, and time in proportion to the demands and to the
-    /// supplies that those of the set may have.
+    /// takes memory for a mark for each demand and each supply, and time in proportion to the demands and
+    /// to the resources that those of the set may have, and their times by words of 64.
     pub fn hall(&self) -> Result<Seq<Demand>, NoMemory>
         ensures { (p : Parts) → AreOf p self.now.told self.now.units self.now.picks self.now.matching self.now.cells
             self.now.tasks self.now.times → IfOk result (λ hall. IsHallOf p self.now.told hall) }

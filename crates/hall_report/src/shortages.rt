@@ -19,8 +19,8 @@ pub struct Shortage {
 
 /// What is short, according to the demands that are kept.
 ///
-/// It fails only where memory is refused. It takes memory for a mark for each demand, and time in proportion to
-/// the demands.
+/// It fails only where memory is refused. It takes memory for a mark for each demand and each supply, and time in
+/// proportion to the demands.
 pub fn shortage_of(demands: &Demands) -> Result<Shortage, NoMemory>
     ensures { (p : Parts) → AreOf p demands.now.told demands.now.units demands.now.picks demands.now.matching demands.now.cells demands.now.tasks demands.now.times → IfOk result (IsShortageOf p demands.now.told) }
 {
