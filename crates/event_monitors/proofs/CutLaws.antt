@@ -1,6 +1,6 @@
 -- A cut leaves the sums of shares that add up.
 use Rattle.std.proofs.Common.{ℕ, ◌≡◌, ◌≤◌, ◌+◌, ◌∙◌, Bool, true, false, cond, Option, Some, None, List, [], ◌∷◌}
-use Rattle.std.proofs.Common.{slice_get, refl, sym, ap, arith, sum_by}
+use Rattle.std.proofs.Common.{slice_get, refl, sym, ap, arith}
 use Rattle.std.specs.Option.{option_map_or}
 use Rattle.std.proofs.lemmas.List.Sums.{sum_by-set}
 use Rattle.khe_base.specs.declared.numbers.ResourceId.{ResourceId}
@@ -27,7 +27,8 @@ module _ (share : Rule → Option Span → Option (Option ResourceId) → ℕ)
       ≡ share_of share p rule point a.after + share_of share p rule point b.after
   parts p rule point s a b cut first second =
       by (names_event p rule point a.before.event.0)
-      ∙ sym (λ i. cond {A = ℕ} (names_event p rule point (one i)) (share rule a.after.span (given_at point a.after.given))
+      ∙ sym (λ i. cond {A = ℕ} (names_event p rule point (one i)) (share rule a.after.span (given_at point
+      a.after.given))
       0 + cond {A = ℕ} (names_event p rule point (two i)) (share rule b.after.span (given_at point b.after.given)) 0)
     where
       one : a.after.event.0 ≡ a.before.event.0
@@ -69,7 +70,8 @@ module _ (share : Rule → Option Span → Option (Option ResourceId) → ℕ)
       let one = sum_by-set f s a.before.meet.0 a.after no_slot first.there in
       let two = sum_by-set f (turned s a) b.before.meet.0 b.after no_slot second.there in
       let whole : f (slot_at s a.before.meet.0) ≡ f a.before = ap f first.slot in
-      let none : f (slot_at (turned s a) b.before.meet.0) ≡ 0 = ap f second.slot ∙ free_part p rule point b.before cut.free in
+      let none : f (slot_at (turned s a) b.before.meet.0) ≡ 0 = ap f second.slot ∙ free_part p rule point b.before
+      cut.free in
       let both = parts p rule point s a b cut first second in
       omega (arith, one, two, whole, none, both)
 

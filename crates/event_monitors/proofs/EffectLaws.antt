@@ -1,6 +1,6 @@
 -- Effects of one slot or of two, and the gauges that they leave.
 use Rattle.std.proofs.Common.{ℕ, ◌≡◌, ◌<◌, ◌∙◌, ◌⊎◌, inl, inr, Bool, true, false, Option, Some, None, List, [], ◌∷◌}
-use Rattle.std.proofs.Common.{length, slice_get, get_or, refl, sym, ap, subst, arith}
+use Rattle.std.proofs.Common.{length, slice_get, refl, sym, ap, subst, arith}
 use Rattle.std.proofs.lemmas.Bool.{cases_eq, true≢false}
 use Rattle.std.proofs.lemmas.Option.{same_Some, slice_get_within}
 use Rattle.khe_base.proofs.ListLemmas.{there}
@@ -80,7 +80,8 @@ module _ {G : Type 0} (keeps : G → Parts → Monitor → List Slot → Type 0)
           → new a.number.0 ≡ false → keeps g p a.monitor s → (n : Bool) → names p t.before.event.0 a.monitor ≡ n
           → keeps g p a.monitor (turned s t)
       by k a g at here not kept true n =
-          unaffected g p a.monitor s t (hold k a (ap (λ ks. has ks k) is ∙ listed_as p posts t.before.event.0 k a at ∙ n)
+          unaffected g p a.monitor s t (hold k a (ap (λ ks. has ks k) is ∙ listed_as p posts t.before.event.0 k a at
+          ∙ n)
           refl at not g here) turns kept
       by k a g at here not kept false n = other_kept keeps elsewhere p g a.monitor s t turns n kept
 
@@ -94,7 +95,11 @@ module _ {G : Type 0} (keeps : G → Parts → Monitor → List Slot → Type 0)
         → AreUnmoved p served waits s s2
     unmoved_by s s2 waits kept law i m at serves not =
         let found = all.all i m at serves in
-        let l : found.0 < length gauges = let w = slice_get_within posts found.0 _ found.1 in omega (arith, amount, w) in
+        let l : found.0 < length gauges = let w = slice_get_within posts found.0 _ found.1 in omega (
+          arith,
+          amount,
+          w,
+        ) in
         let g = there gauges found.0 l in
         law found.0 _ g.value found.1 g.found not ∙ sym (exact g.value p m s (kept found.0 _ g.value found.1 g.found))
 

@@ -24,7 +24,7 @@ use Rattle.khe_told.specs.Turns.{IsTurn, SlotTurn, turned}
 use Rattle.khe_told.specs.declared.slots.Slot.{Slot}
 use Rattle.khe_told.specs.declared.slots.Span.{Span}
 use Rattle.event_monitors.specs.Posts.{names}
-use Rattle.event_monitors.specs.Shares.{AddsUp, IsSameShare, KeepsDuration, KeepsMeet, KeepsTasks, given_at}
+use Rattle.event_monitors.specs.Shares.{IsSameShare, KeepsDuration, KeepsMeet, KeepsTasks, given_at}
 use Rattle.event_monitors.specs.Shares.{measured_by, most_of, share_of, span_share, task_share, total_at, total_of}
 
 -- a rule of a kind's number is one of the kind

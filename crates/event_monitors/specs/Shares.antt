@@ -55,7 +55,11 @@ abbrev pub AddsUp : (Rule → Option Span → Option (Option ResourceId) → ℕ
 AddsUp share = (rule : Rule) (cut rest : ℕ) (start : Option TimeId) (given : Option (Option ResourceId))
     → share rule (Some (record { duration = cut + rest; start = start })) given
     ≡ share rule (Some (record { duration = cut; start = start })) given
-    + share rule (Some (record { duration = rest; start = option_map (λ (t : TimeId). record { 0 = t.0 + cut }) start }))
+    + share rule (Some (record {
+      duration = rest;
+      start = option_map (λ (t : TimeId). record { 0 = t.0 + cut })
+          start;
+    }))
     given
 
 -- a turn leaves what its slot counts for in the sum of a monitor that names its event

@@ -112,7 +112,8 @@ pub trait Gauge {
     ghost deaf: { (g : Self) (p : Parts) (m : Monitor) (s : List Slot) (t : SlotTurn) → IsUnheard t → IsTurn p s t → Keeps g p m s → Keeps g p m (turned s t) };
 
     /// An effect that leaves what it keeps keeps it valid.
-    ghost unaffected: { (g : Self) (p : Parts) (m : Monitor) (s : List Slot) (t : SlotTurn) → IsUnaffected g p m t → IsTurn p s t → Keeps g p m s → Keeps g p m (turned s t) };
+    ghost unaffected: { (g : Self) (p : Parts) (m : Monitor) (s : List Slot) (t : SlotTurn) → IsUnaffected g p m t →
+        IsTurn p s t → Keeps g p m s → Keeps g p m (turned s t) };
 
     /// A change of a slot of an event that the monitor does not name keeps it valid.
     ghost elsewhere: { (g : Self) (p : Parts) (m : Monitor) (s : List Slot) (k : ℕ) (x : Slot) → k < length s → emptied x ≡ emptied (slot_at s k)

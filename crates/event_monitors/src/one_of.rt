@@ -18,7 +18,8 @@ pub enum OneOf<A, B> {
 
 impl<A: Gauge + Drop, B: Gauge + Drop> Gauge for OneOf<A, B> {
     ghost use Rattle.std.specs.Prelude.{◌||◌};
-    ghost use Rattle.event_monitors.specs.OneOfs.{keeps_one, value_one, exact_one, deaf_one, elsewhere_one, unaffected_in, unaffected_one};
+    ghost use Rattle.event_monitors.specs.OneOfs.{keeps_one, value_one, exact_one, deaf_one, elsewhere_one};
+    ghost use Rattle.event_monitors.specs.OneOfs.{unaffected_in, unaffected_one};
 
     ghost serves_kind = { λ k. A.serves_kind k || B.serves_kind k };
 

@@ -27,7 +27,8 @@ fn queue_one<G: Gauge, W: Waits>(
     requires keeps { (s : List Slot) × G.Keeps gauge.now inst.now post.now.monitor s }
     requires known { post.now.number.0 < W.monitors waits.old }
     ensures monitors { W.monitors waits.new ≡ W.monitors waits.old }
-    ensures unaffected { W.hears ≡ true → W.waits waits.new post.now.number.0 ≡ false → G.IsUnaffected gauge.now inst.now post.now.monitor effect.now }
+    ensures unaffected { W.hears ≡ true → W.waits waits.new post.now.number.0 ≡ false → G.IsUnaffected gauge.now
+        inst.now post.now.monitor effect.now }
     ensures kept { WaitOn (W.waits waits.old) (W.waits waits.new) }
 {
     if !gauge.is_affected(inst, post.monitor, effect) {

@@ -10,7 +10,8 @@ ghost use Rattle.khe_told.specs.Turns.{IsTurn, SlotTurn, turned};
 ghost use Rattle.khe_told.specs.declared.slots.Slot.{Slot};
 ghost use Rattle.khe_told.specs.declared.slots.Span.{Span};
 ghost use Rattle.event_monitors.specs.Posts.{names};
-ghost use Rattle.event_monitors.specs.Shares.{AddsUp, IsSameShare, KeepsDuration, KeepsMeet, KeepsTasks, given_at, greatest_total, most_of, total_of};
+ghost use Rattle.event_monitors.specs.Shares.{AddsUp, IsSameShare, KeepsDuration, KeepsMeet, KeepsTasks, given_at};
+ghost use Rattle.event_monitors.specs.Shares.{greatest_total, most_of, total_of};
 
 use crate::effects::{names_event, point_after};
 use khe_base::ResourceId;

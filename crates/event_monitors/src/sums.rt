@@ -134,7 +134,13 @@ impl<S: Summed> Gauge for Sum<S> {
 
     ghost deaf = { λ g p m s t h turns kept. (kept.0, kept.1, total_unheard S.share p m s t g.total turns (λ r q. S.unheard r q t h) kept.2, kept.3) };
 
-    ghost unaffected = { λ g p m s t h turns kept. (kept.0, kept.1, total_unaffected S.share p m s t g.total turns h kept.2, kept.3) };
+    ghost unaffected = { λ g p m s t h turns kept. (
+      kept.0,
+      kept.1,
+      total_unaffected S.share p m s t g.total turns h
+          kept.2,
+      kept.3,
+    ) };
 
     ghost elsewhere = { λ g p m s k x l same named kept. (kept.0, kept.1, total_elsewhere S.share p m s k x g.total l same named kept.0 kept.2, kept.3) };
 }

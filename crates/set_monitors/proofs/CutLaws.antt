@@ -1,12 +1,10 @@
 -- A cut leaves who has tasks in a role, and which events run at each time.
-use Rattle.std.proofs.Common.{ℕ, ◌≡◌, ◌≤◌, ◌<◌, ◌+◌, ◌==◌, ◌&&◌, ◌∙◌, zero, suc, ltb, nat_le, Bool, true, false, cond, Option}
+use Rattle.std.proofs.Common.{ℕ, ◌≡◌, ◌≤◌, ◌+◌, ◌==◌, ◌&&◌, ◌∙◌, zero, suc, ltb, Bool, true, false, cond, Option}
 use Rattle.std.proofs.Common.{Some, None, List, [], ◌∷◌, map, length, refl, sym, ap, subst, arith, count_by}
 use Rattle.std.specs.List.{range_with_len}
 use Rattle.std.specs.Prelude.{replicate}
 use Rattle.std.specs.Option.{option_map}
-use Rattle.std.proofs.lemmas.Bool.{cases_lt, lt-ltb}
-use Rattle.std.proofs.lemmas.List.{length-map}
-use Rattle.std.proofs.lemmas.Option.{none-some, same_Some}
+use Rattle.std.proofs.lemmas.Bool.{lt-ltb}
 use Rattle.std.proofs.lemmas.List.Elements.{All-get_or}
 use Rattle.std.proofs.lemmas.List.Sums.{sum_by-set}
 use Rattle.khe_base.specs.declared.numbers.TimeId.{TimeId}
@@ -15,19 +13,19 @@ use Rattle.khe_instance.specs.declared.parts.Parts.{Parts}
 use Rattle.khe_instance.specs.declared.points.Monitor.{Monitor}
 use Rattle.khe_instance.specs.declared.points.Point.{Point}
 use Rattle.khe_told.specs.Effects.{AreTurns, IsCut}
-use Rattle.khe_told.specs.Fits.{AreTold, IsSlot}
+use Rattle.khe_told.specs.Fits.{IsSlot}
 use Rattle.khe_told.specs.Slots.{no_slot, slot_at}
-use Rattle.khe_told.specs.Turns.{IsTurn, SlotTurn, turned}
+use Rattle.khe_told.specs.Turns.{SlotTurn, turned}
 use Rattle.khe_told.specs.declared.slots.Slot.{Slot}
-use Rattle.khe_told.specs.declared.slots.Span.{Span}
 use Rattle.event_monitors.specs.Posts.{names}
 use Rattle.event_monitors.proofs.SlotFacts.{part_of_sum}
-use Rattle.set_monitors.specs.AvoidSplitAssignments.{AreHeld, IsShared, given_from, given_in, given_none, held, holders}
-use Rattle.set_monitors.specs.AvoidSplitAssignments.{in_role, loose_none}
+use Rattle.set_monitors.specs.AvoidSplitAssignments.{IsShared, given_from, given_in, given_none, held}
+use Rattle.set_monitors.specs.AvoidSplitAssignments.{in_role}
 use Rattle.set_monitors.specs.LinkCounts.{one_if}
 use Rattle.set_monitors.specs.LinkElsewhereLaws.{meets_turned}
 use Rattle.set_monitors.specs.Links.{AreOfGroup, meets_at, runs_in}
 use Rattle.set_monitors.specs.NamedSums.{named_part}
+use Rattle.set_monitors.proofs.HandingLaws.{shared_of_state}
 
 -- both parts of a meet together run when the whole does
 covers_parts : (cut rest : ℕ) (start : Option TimeId) (u : ℕ)
@@ -46,7 +44,8 @@ module _ (p : Parts) (s : List Slot) (a b : SlotTurn) (cut : IsCut a b) (turns :
       let x : ℕ = one_if ((a.before.event.0 == e) && runs_in a.after.span u) in
       let y : ℕ = one_if ((b.before.event.0 == e) && runs_in b.after.span u) in
       let z : ℕ = one_if ((b.before.event.0 == e) && runs_in b.before.span u) in
-      let none : z ≡ 0 = ap (λ o. one_if ((b.before.event.0 == e) && runs_in o u)) cut.free ∙ off (b.before.event.0 == e)
+      let none : z ≡ 0 = ap (λ o. one_if ((b.before.event.0 == e) && runs_in o u)) cut.free ∙ off (b.before.event.0
+      == e)
       in
       let both : w ≡ x + y = parts in
       omega (arith, one, two, none, both)
@@ -85,7 +84,8 @@ module _ (p : Parts) (s : List Slot) (a b : SlotTurn) (cut : IsCut a b) (turns :
       where
         given : b.before.given ≡ replicate (length b.before.given) None
         given = (subst (IsSlot p) turns.1.0.slot
-            (All-get_or (IsSlot p) (turned s a) b.before.meet.0 no_slot turns.1.0.there turns.1.0.told.slots)).empty cut.free
+            (All-get_or (IsSlot p) (turned s a) b.before.meet.0 no_slot turns.1.0.there turns.1.0.told.slots)).empty
+            cut.free
 
         by : (n : Bool) → given_in p m r b.before ≡ 0 → cond {A = ℕ} n (given_in p m r b.before) 0 ≡ 0
         by true h = h
@@ -123,19 +123,7 @@ module _ (p : Parts) (s : List Slot) (a b : SlotTurn) (cut : IsCut a b) (turns :
         by n zero u h l = zeros n zero (omega (arith, h, l))
         by n (suc k) u h l = lt-ltb 0 n (omega (arith, h)) ∙ sym (lt-ltb 0 (suc k) (omega arith))
 
-    counts_of : (f : ℕ → ℕ) (numbers : List ℕ) → AreHeld f numbers (map f numbers)
-    counts_of f (n ∷ numbers) zero r h = ap (λ k. Some (f k)) (same_Some n r h)
-    counts_of f (n ∷ numbers) (suc k) r h = counts_of f numbers k r h
-    counts_of f [] k r h = absurd (none-some r h)
-
     pub shared_cut : (numbers row : List ℕ) (n : ℕ) → IsShared p m s numbers row n
         → IsShared p m (turned (turned s a) b) numbers (map (held p m (turned (turned s a) b)) numbers) n
-    shared_cut numbers row n kept = record {
-      monitor = kept.monitor;
-      serves = kept.serves;
-      candidates = kept.candidates;
-      amount = length-map numbers (held p m (turned (turned s a) b));
-      counts = counts_of (held p m (turned (turned s a) b)) numbers;
-      free = λ r. loose_none p m (turned (turned s a) b) r turns.1.0.later;
-      above = kept.above ∙ sym (λ i. count_by (λ r. some_held r i) (range_with_len 0 (length p.resources)));
-    }
+    shared_cut numbers row n kept = shared_of_state p m s (turned (turned s a) b) numbers row n n turns.1.0.later
+        (kept.above ∙ sym (λ i. count_by (λ r. some_held r i) (range_with_len 0 (length p.resources)))) kept

@@ -1,9 +1,9 @@
 -- Effects that leave what a gauge keeps, or what is read from it.
-use Rattle.std.proofs.Common.{ℕ, ◌≡◌, ◌∙◌, ◌⊎◌, inl, inr, Option, Some, None, List, [], ◌∷◌, sym, subst}
+use Rattle.std.proofs.Common.{ℕ, ◌≡◌, inl, inr, Some, None, List, [], ◌∷◌, subst}
 use Rattle.khe_instance.specs.declared.parts.Parts.{Parts}
 use Rattle.khe_instance.specs.declared.points.Monitor.{Monitor}
 use Rattle.khe_told.specs.Agreement.{deviation_in}
-use Rattle.khe_told.specs.Effects.{AreCut, AreTurns, effects_of, turned_all}
+use Rattle.khe_told.specs.Effects.{AreTurns, effects_of, turned_all}
 use Rattle.khe_told.specs.Fits.{AreTold}
 use Rattle.khe_told.specs.Turns.{IsTurn, SlotTurn, turned}
 use Rattle.khe_told.specs.declared.slots.Slot.{Slot}
@@ -14,6 +14,11 @@ use Rattle.set_monitors.specs.Foreseeing.{AllKeep, AreCutOrKeep}
 pub told_after : (p : Parts) (s : List Slot) (ts : List SlotTurn) → AreTurns p s ts → AreTold p (turned_all s ts)
 told_after p s [] turns = turns
 told_after p s (t ∷ ts) turns = told_after p (turned s t) ts turns.1
+
+-- and the one before them
+pub told_first : (p : Parts) (s : List Slot) (ts : List SlotTurn) → AreTurns p s ts → AreTold p s
+told_first p s [] turns = turns
+told_first p s (t ∷ ts) turns = turns.0.told
 
 -- one or two turns that leave the same
 pub one_keeps : (kept : SlotTurn → Type 0) (a : SlotTurn) (ts : List SlotTurn) → effects_of a None ≡ ts → kept a

@@ -3,6 +3,7 @@ pub mod CandidateLaws
 pub mod CutLaws
 pub mod EventRankLaws
 pub mod ForeseenLaws
+pub mod HandingLaws
 pub mod HolderLaws
 pub mod HolderTurns
 pub mod LinkCountLaws

@@ -1,34 +1,38 @@
--- The first starts and last ends of events are the same after a cut, and after turns that keep the meets.
-use Rattle.std.proofs.Common.{ℕ, ◌≡◌, ◌≤◌, ◌<◌, ◌+◌, ◌-◌, ◌==◌, ◌∙◌, ◌⊎◌, inl, inr, zero, suc, min, fold, Bool, true, false, cond}
-use Rattle.std.proofs.Common.{Option, Some, None, List, [], ◌∷◌, filter, map, set, get_or, get_or-set_same, length}
+-- The first starts and last ends of events that have a list are the same after a cut, and after turns that keep the
+-- meets or are of other events.
+use Rattle.std.proofs.Common.{ℕ, ◌≡◌, ◌≤◌, ◌<◌, ◌+◌, ◌-◌, ◌==◌, ◌||◌, ◌∙◌, ◌⊎◌, inl, inr, zero, suc, min, fold, Bool}
+use Rattle.std.proofs.Common.{true, false, cond}
+use Rattle.std.proofs.Common.{Option, Some, None, List, [], ◌∷◌, map, set, get_or, get_or-set_same, length}
 use Rattle.std.proofs.Common.{slice_get, refl, sym, ap, subst, arith}
 use Rattle.std.specs.Option.{option_map}
 use Rattle.std.specs.Prelude.{IfSome}
+use Rattle.std.proofs.lemmas.Bool.{eq-eqb, ne_eqb}
 use Rattle.std.proofs.lemmas.List.{length-set}
 use Rattle.khe_base.specs.declared.numbers.TimeId.{TimeId}
-use Rattle.khe_instance.specs.WellMade.{AreWellMade, IsMonitor}
+use Rattle.khe_instance.specs.WellMade.{AreWellMade}
 use Rattle.khe_instance.specs.declared.parts.Parts.{Parts}
 use Rattle.khe_instance.specs.declared.points.Monitor.{Monitor}
 use Rattle.khe_instance.specs.declared.rules.EventPair.{EventPair}
 use Rattle.khe_instance.proofs.MadeLemmas.{monitor_made}
 use Rattle.khe_told.specs.Agreement.{deviation_in}
 use Rattle.khe_told.specs.Effects.{AreTurns, IsCut, turned_all}
-use Rattle.khe_told.specs.Fits.{AreTold}
 use Rattle.khe_told.specs.Lists.{duties_in, meets_in}
 use Rattle.khe_told.specs.Slots.{no_slot, slot_at}
 use Rattle.khe_told.specs.Turns.{IsTurn, SlotTurn, turned}
 use Rattle.khe_told.specs.Waits.{AreUnmoved}
 use Rattle.khe_told.specs.declared.slots.Slot.{Slot}
 use Rattle.khe_told.specs.declared.slots.Span.{Span}
-use Rattle.event_monitors.specs.Shares.{KeepsMeet}
-use Rattle.set_monitors.specs.Foreseeing.{AllKeep, AreCutOrKeep}
-use Rattle.set_monitors.specs.MeetEdges.{IsEdges, end_key, own_slots, start_key}
+use Rattle.event_monitors.specs.Posts.{AreListed, ArePosts}
+use Rattle.event_monitors.specs.declared.posts.Post.{Post}
+use Rattle.set_monitors.specs.Foreseeing.{AreCutOrKeep}
+use Rattle.set_monitors.specs.MeetEdges.{IsEdges, IsWatched, LeavesEdges, end_key, own_slots, start_key}
 use Rattle.set_monitors.specs.OrderPairs.{between, is_order}
 use Rattle.set_monitors.specs.declared.meet_edges.Edges.{Edges}
 use Rattle.set_monitors.specs.declared.least_trees.TheConstants.{NOTHING}
 use Rattle.set_monitors.proofs.BetweenLaws.{order_is}
-use Rattle.set_monitors.proofs.ForeseenLaws.{told_after}
+use Rattle.set_monitors.proofs.ForeseenLaws.{told_after, told_first}
 use Rattle.set_monitors.proofs.OrderPairLaws.{HasPair, its_pair}
+use Rattle.set_monitors.proofs.OrderWaitLaws.{watched}
 use Rattle.set_monitors.proofs.OwnSlotLaws.{told_short}
 
 -- the least of the keys of an event's slots
@@ -88,15 +92,23 @@ module _ (key : Option Span → ℕ) (e : ℕ) where
         (below (turned s t) t.before.meet.0 (let k = length-set s t.before.meet.0 t.after in let l = turns.there in
         omega (arith, k, l)))
 
-    -- a turn that keeps the meet
-    pub least_kept : KeepsMeet t → least (turned s t) ≡ least s
+    -- a turn that keeps the meet, or is of another event
+    pub least_kept : (t.before.span ≡ t.after.span) ⊎ (t.before.event.0 ≡ e → ⊥) → least (turned s t) ≡ least s
     least_kept kept =
-        let same : part t.after ≡ part t.before = (λ i. cond (ap (λ (y : Slot). y.event.0) turns.same i == e)
-        (key (sym kept i)) NOTHING) in
+        let same = same_part kept in
         let a = turn_exchanged in
         let b = turn_below in
         let c = turn_after in
         omega (arith, a, b, c, same)
+      where
+        own : t.after.event.0 ≡ t.before.event.0
+        own = ap (λ (y : Slot). y.event.0) turns.same
+
+        same_part : (t.before.span ≡ t.after.span) ⊎ (t.before.event.0 ≡ e → ⊥) → part t.after ≡ part t.before
+        same_part (inl h) = λ i. cond (own i == e) (key (sym h i)) NOTHING
+        same_part (inr n) = ap (λ b. cond b (key t.after.span) NOTHING) (ne_eqb t.after.event.0 e (λ h. n (sym own ∙
+            h)))
+            ∙ sym (ap (λ b. cond b (key t.before.span) NOTHING) (ne_eqb t.before.event.0 e n))
 
   -- what a cut does to the keys of its slots
   pub least_cut : (p : Parts) (s : List Slot) (a b : SlotTurn) → IsTurn p s a → IsTurn p (turned s a) b
@@ -184,72 +196,83 @@ module _ (p : Parts) (s : List Slot) (a b : SlotTurn) (cut : IsCut a b) (first :
       by true (Some t) = omega arith
       by false start = omega arith
 
--- the first starts and last ends of all events are the same in two states
-record AreAlike (s s2 : List Slot) : Type 0 where
-  starts : (e : ℕ) → least start_key e s2 ≡ least start_key e s
-  ends : (e : ℕ) → least end_key e s2 ≡ least end_key e s
+-- the first starts and last ends of all events that have a list are the same in two states
+record AreAlike (lists : List (List ℕ)) (s s2 : List Slot) : Type 0 where
+  starts : (e : ℕ) → IsWatched lists e → least start_key e s2 ≡ least start_key e s
+  ends : (e : ℕ) → IsWatched lists e → least end_key e s2 ≡ least end_key e s
 
-alike : (p : Parts) (s : List Slot) (ts : List SlotTurn) → AreCutOrKeep KeepsMeet ts → AreTurns p s ts
-    → AreAlike s (turned_all s ts)
-alike p s [] (inl h) turns = absurd h
-alike p s (a ∷ []) (inl h) turns = absurd h
-alike p s (a ∷ b ∷ []) (inl h) turns = record {
-  starts = λ e. starts_cut p s a b h turns.0 turns.1.0 e;
-  ends = λ e. ends_cut p s a b h turns.0 turns.1.0 e;
+other : (lists : List (List ℕ)) (t : SlotTurn) (e : ℕ) → LeavesEdges lists t → IsWatched lists e
+    → (t.before.span ≡ t.after.span) ⊎ (t.before.event.0 ≡ e → ⊥)
+other lists t e (inl h) watched = inl h
+other lists t e (inr none) watched = inr (λ h. watched (ap (λ k. get_or lists k []) (sym h) ∙ none))
+
+alike : (p : Parts) (lists : List (List ℕ)) (s : List Slot) (ts : List SlotTurn)
+    → AreCutOrKeep (LeavesEdges lists) ts → AreTurns p s ts → AreAlike lists s (turned_all s ts)
+alike p lists s [] (inl h) turns = absurd h
+alike p lists s (a ∷ []) (inl h) turns = absurd h
+alike p lists s (a ∷ b ∷ []) (inl h) turns = record {
+  starts = λ e w. starts_cut p s a b h turns.0 turns.1.0 e;
+  ends = λ e w. ends_cut p s a b h turns.0 turns.1.0 e;
 }
-alike p s (a ∷ b ∷ c ∷ ts) (inl h) turns = absurd h
-alike p s [] (inr h) turns = record { starts = λ e. refl; ends = λ e. refl }
-alike p s (t ∷ ts) (inr h) turns =
-    let rest = alike p (turned s t) ts (inr h.1) turns.1 in
+alike p lists s (a ∷ b ∷ c ∷ ts) (inl h) turns = absurd h
+alike p lists s [] (inr h) turns = record { starts = λ e w. refl; ends = λ e w. refl }
+alike p lists s (t ∷ ts) (inr h) turns =
+    let rest = alike p lists (turned s t) ts (inr h.1) turns.1 in
     record {
-      starts = λ e. rest.starts e ∙ least_kept start_key e p s t turns.0 h.0;
-      ends = λ e. rest.ends e ∙ least_kept end_key e p s t turns.0 h.0;
+      starts = λ e w. rest.starts e w ∙ least_kept start_key e p s t turns.0 (other lists t e h.0 w);
+      ends = λ e w. rest.ends e w ∙ least_kept end_key e p s t turns.0 (other lists t e h.0 w);
     }
-
-told_first : (p : Parts) (s : List Slot) (ts : List SlotTurn) → AreTurns p s ts → AreTold p s
-told_first p s [] turns = turns
-told_first p s (t ∷ ts) turns = turns.0.told
 
 -- so all deviations are the same
-pub value_alike : (p : Parts) (m : Monitor) (s : List Slot) (ts : List SlotTurn) → AreWellMade p → IsMonitor p m
-    → is_order m.kind ≡ true → AreCutOrKeep KeepsMeet ts → AreTurns p s ts
-    → deviation_in p (turned_all s ts) m ≡ deviation_in p s m
-value_alike p m s ts made monitor serves kept turns =
-    let s2 = turned_all s ts in
-    let found = its_pair p m made monitor serves in
-    let q : EventPair = found.0 in
-    let h : HasPair p m q = found.1 in
-    let same = alike p s ts kept turns in
-    h.is (meets_in s2) (duties_in s2)
-    ∙ order_is s2 q.first.0 q.second.0 (of q.first.0 s2) (of q.second.0 s2) q.min q.max
-    (told_short p s2 made.limits.times (told_after p s ts turns)) (are q.first.0 s2) (are q.second.0 s2)
-    ∙ (λ i. between (same.ends q.first.0 i) (same.starts q.second.0 i) q.min q.max)
-    ∙ sym (order_is s q.first.0 q.second.0 (of q.first.0 s) (of q.second.0 s) q.min q.max
-    (told_short p s made.limits.times (told_first p s ts turns)) (are q.first.0 s) (are q.second.0 s))
-    ∙ sym (h.is (meets_in s) (duties_in s))
-  where
-    of : ℕ → List Slot → Edges
-    of e z = record {
-      starts = map (λ (x : Slot). start_key x.span) (own_slots e z);
-      ends = map (λ (x : Slot). end_key x.span) (own_slots e z);
-    }
+module _ (p : Parts) (posts : List Post) (lists : List (List ℕ)) (s : List Slot) (ts : List SlotTurn)
+    (made : AreWellMade p) (all : ArePosts p is_order posts) (listed : AreListed p posts lists)
+    (kept : AreCutOrKeep (LeavesEdges lists) ts) (turns : AreTurns p s ts) where
+  abbrev of : ℕ → List Slot → Edges
+  of e z = record {
+    starts = map (λ (x : Slot). start_key x.span) (own_slots e z);
+    ends = map (λ (x : Slot). end_key x.span) (own_slots e z);
+  }
 
-    are : (e : ℕ) (z : List Slot) → IsEdges e z (of e z)
-    are e z = record { starts = refl; ends = refl }
+  are : (e : ℕ) (z : List Slot) → IsEdges e z (of e z)
+  are e z = record { starts = refl; ends = refl }
 
-pub unmoved_alike : (p : Parts) (s : List Slot) (ts : List SlotTurn) (waits : ℕ → Bool) → AreWellMade p
-    → AreCutOrKeep KeepsMeet ts → AreTurns p s ts → AreUnmoved p is_order waits s (turned_all s ts)
-unmoved_alike p s ts waits made kept turns i m there serves not =
-    value_alike p m s ts made (monitor_made p made i m there) serves kept turns
+  or_true : (b : Bool) → (b || true) ≡ true
+  or_true true = refl
+  or_true false = refl
 
-pub answer_alike : (p : Parts) (s : List Slot) (ts : List SlotTurn) (i answer : ℕ) → AreWellMade p
-    → AreCutOrKeep KeepsMeet ts → AreTurns p s ts
-    → IfSome (slice_get p.monitors i) (λ (m : Monitor). is_order m.kind ≡ true)
-    → option_map (deviation_in p s) (slice_get p.monitors i) ≡ Some answer
-    → option_map (deviation_in p (turned_all s ts)) (slice_get p.monitors i) ≡ Some answer
-answer_alike p s ts i answer made kept turns = by (slice_get p.monitors i) refl
-  where
-    by : (o : Option Monitor) → slice_get p.monitors i ≡ o → IfSome o (λ (m : Monitor). is_order m.kind ≡ true)
-        → option_map (deviation_in p s) o ≡ Some answer → option_map (deviation_in p (turned_all s ts)) o ≡ Some answer
-    by None at serves h = h
-    by (Some m) at serves h = ap Some (value_alike p m s ts made (monitor_made p made i m at) serves kept turns) ∙ h
+  value_alike : (i : ℕ) (m : Monitor) → slice_get p.monitors i ≡ Some m → is_order m.kind ≡ true
+      → deviation_in p (turned_all s ts) m ≡ deviation_in p s m
+  value_alike i m at serves =
+      let s2 = turned_all s ts in
+      let post = all.all i m at serves in
+      let a : Post = record { number = record { 0 = i }; monitor = m } in
+      let found = its_pair p m made (monitor_made p made i m at) serves in
+      let q : EventPair = found.0 in
+      let h : HasPair p m q = found.1 in
+      let same = alike p lists s ts kept turns in
+      let one = watched p posts lists q.first.0 post.0 a listed h.first post.1 (h.names_are q.first.0
+      ∙ ap (λ b. b || (q.second.0 == q.first.0)) (eq-eqb q.first.0 q.first.0 refl)) in
+      let two = watched p posts lists q.second.0 post.0 a listed h.second post.1 (h.names_are q.second.0
+      ∙ ap (λ b. (q.first.0 == q.second.0) || b) (eq-eqb q.second.0 q.second.0 refl)
+      ∙ or_true (q.first.0 == q.second.0)) in
+      h.is (meets_in s2) (duties_in s2)
+      ∙ order_is s2 q.first.0 q.second.0 (of q.first.0 s2) (of q.second.0 s2) q.min q.max
+      (told_short p s2 made.limits.times (told_after p s ts turns)) (are q.first.0 s2) (are q.second.0 s2)
+      ∙ (λ j. between (same.ends q.first.0 one j) (same.starts q.second.0 two j) q.min q.max)
+      ∙ sym (order_is s q.first.0 q.second.0 (of q.first.0 s) (of q.second.0 s) q.min q.max
+      (told_short p s made.limits.times (told_first p s ts turns)) (are q.first.0 s) (are q.second.0 s))
+      ∙ sym (h.is (meets_in s) (duties_in s))
+
+  pub unmoved_alike : (waits : ℕ → Bool) → AreUnmoved p is_order waits s (turned_all s ts)
+  unmoved_alike waits i m at serves not = value_alike i m at serves
+
+  pub answer_alike : (i answer : ℕ) → IfSome (slice_get p.monitors i) (λ (m : Monitor). is_order m.kind ≡ true)
+      → option_map (deviation_in p s) (slice_get p.monitors i) ≡ Some answer
+      → option_map (deviation_in p (turned_all s ts)) (slice_get p.monitors i) ≡ Some answer
+  answer_alike i answer = by (slice_get p.monitors i) refl
+    where
+      by : (o : Option Monitor) → slice_get p.monitors i ≡ o → IfSome o (λ (m : Monitor). is_order m.kind ≡ true)
+          → option_map (deviation_in p s) o ≡ Some answer
+          → option_map (deviation_in p (turned_all s ts)) o ≡ Some answer
+      by None at serves h = h
+      by (Some m) at serves h = ap Some (value_alike i m at serves) ∙ h

@@ -30,7 +30,7 @@ named_there : (p : Parts) (posts : List Post) (e k : ℕ) (a : Post) → slice_g
 named_there p posts e k a at named = listed_as p posts e k a at ∙ named
 
 -- an event that a post names has a list
-watched : (p : Parts) (posts : List Post) (lists : List (List ℕ)) (e k : ℕ) (a : Post) → AreListed p posts lists
+pub watched : (p : Parts) (posts : List Post) (lists : List (List ℕ)) (e k : ℕ) (a : Post) → AreListed p posts lists
     → e < length p.events → slice_get posts k ≡ Some a → names p e a.monitor ≡ true → IsWatched lists e
 watched p posts lists e k a listed l at named none =
     let here : slice_get lists e ≡ Some (get_or lists e []) =

@@ -340,7 +340,18 @@ loose_none p m s q told =
     named true n h = omega (arith, h)
     named false n h = omega (arith, h)
 
--- so all that is kept stays after a turn that gives nothing else
+-- each resource has as many tasks after a turn
+abbrev pub IsHeldOn : Parts → Monitor → SlotTurn → Type 0
+IsHeldOn p m t = (s : List Slot) → IsTurn p s t → (q : ℕ) → held p m (turned s t) q ≡ held p m s q
+
+-- so all that is kept stays after such a turn
+pub shared_on : (p : Parts) (m : Monitor) (s : List Slot) (t : SlotTurn) (numbers counts : List ℕ) (above : ℕ)
+    → ((q : ℕ) → held p m (turned s t) q ≡ held p m s q) → IsTurn p s t → IsShared p m s numbers counts above
+    → IsShared p m (turned s t) numbers counts above
+shared_on p m s t numbers counts above same turns kept = shared_same p m s (turned s t) numbers counts above same
+    (λ r. loose_none p m (turned s t) r turns.later ∙ sym (kept.free r)) kept
+
+-- and after one that gives nothing else
 pub shared_unheard : (p : Parts) (m : Monitor) (s : List Slot) (t : SlotTurn) (numbers counts : List ℕ) (above : ℕ)
     → t.before.given ≡ t.after.given → IsTurn p s t → IsShared p m s numbers counts above
     → IsShared p m (turned s t) numbers counts above

@@ -1,11 +1,7 @@
--- Effects that leave what some kinds are read from: a cut, and those that leave each slot's meet or what it is given.
-use Rattle.std.specs.Prelude.{◌≡◌, ◌⊎◌, List, [], ◌∷◌}
+-- Effects that leave what some kinds are read from: a cut, and those that leave each slot's meet.
+use Rattle.std.specs.Prelude.{◌⊎◌, List, [], ◌∷◌}
 use Rattle.khe_told.specs.Effects.{AreCut}
 use Rattle.khe_told.specs.Turns.{SlotTurn}
-
--- a turn leaves what its slot's places are given
-abbrev pub KeepsGiven : SlotTurn → Type 0
-KeepsGiven t = t.before.given ≡ t.after.given
 
 -- each of some turns leaves it
 abbrev pub AllKeep : (SlotTurn → Type 0) → List SlotTurn → Type 0

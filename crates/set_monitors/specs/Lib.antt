@@ -1,6 +1,7 @@
 pub mod AvoidSplitAssignments
 pub mod Candidates
 pub mod Foreseeing
+pub mod Handings
 pub mod LeastTrees
 pub mod LinkCounts
 pub mod LinkElsewhereLaws

@@ -1,10 +1,11 @@
 -- When the meet of each slot of an event starts and ends, as keys whose least is the first start and the last end.
-use Rattle.std.specs.Prelude.{ℕ, ◌≡◌, ◌≢◌, ◌≤◌, ◌+◌, ◌-◌, ◌==◌, Option, Some, None, List, [], All, map, length}
+use Rattle.std.specs.Prelude.{ℕ, ◌≡◌, ◌≢◌, ◌⊎◌, ◌≤◌, ◌+◌, ◌-◌, ◌==◌, Option, Some, None, List, [], All, map, length}
 use Rattle.std.specs.Prelude.{slice_get, slice_index_or, IfSome}
 use Rattle.std.specs.List.{filter}
 use Rattle.std.specs.Option.{option_map_or}
 use Rattle.khe_base.specs.declared.limits.TheConstants.{TIMES}
 use Rattle.khe_instance.specs.declared.parts.Parts.{Parts}
+use Rattle.khe_told.specs.Turns.{SlotTurn}
 use Rattle.khe_told.specs.declared.slots.Slot.{Slot}
 use Rattle.khe_told.specs.declared.slots.Span.{Span}
 use Rattle.set_monitors.specs.declared.meet_edges.Edges.{Edges}
@@ -30,6 +31,10 @@ pub record IsEdges (e : ℕ) (s : List Slot) (a : Edges) : Type 0 where
 -- the list of an event has something
 abbrev pub IsWatched : List (List ℕ) → ℕ → Type 0
 IsWatched lists e = slice_index_or lists e [] ≢ []
+
+-- a turn keeps its slot's meet, or is of an event without a list
+abbrev pub LeavesEdges : List (List ℕ) → SlotTurn → Type 0
+LeavesEdges lists t = (t.before.span ≡ t.after.span) ⊎ (slice_index_or lists t.before.event.0 [] ≡ [])
 
 -- those of all events that have a list
 pub record AreEdges (p : Parts) (lists : List (List ℕ)) (s : List Slot) (edges : List Edges) : Type 0 where

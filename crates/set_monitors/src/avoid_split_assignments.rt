@@ -14,7 +14,7 @@ ghost use Rattle.set_monitors.specs.AvoidSplitAssignments.{is_first, is_last, wi
 ghost use Rattle.set_monitors.specs.RolePlaces.{AreRolePlaces};
 
 use crate::candidates::candidates;
-use crate::foreseeing::keep_given;
+use crate::holder_effects::{above_after, handings_of, hands_other};
 use crate::role_places::{RolePlace, place_of, role_places};
 use event_monitors::{Counted, Gauge, gives_other};
 use family_keepers::Keeping;
@@ -49,8 +49,7 @@ impl Gauge for Holders {
     ghost use Rattle.khe_instance.specs.KindLaws.{is_kind};
     ghost use Rattle.khe_instance.specs.declared.rules.Kind.TheVariants as kind;
     ghost use Rattle.set_monitors.specs.AvoidSplitAssignments.{IsShared, shared_elsewhere, shared_exact};
-    ghost use Rattle.set_monitors.specs.AvoidSplitAssignments.{shared_unheard};
-    ghost use Rattle.set_monitors.specs.Foreseeing.{AreCutOrKeep, KeepsGiven};
+    ghost use Rattle.set_monitors.specs.AvoidSplitAssignments.{IsHeldOn, shared_on, shared_unheard};
     ghost use Rattle.set_monitors.specs.RolePlaces.{AreRolePlaces};
 
     ghost serves_kind = { λ k. is_kind k kind.AvoidSplitAssignments };
@@ -95,23 +94,21 @@ impl Gauge for Holders {
         u64::from(self.above.saturating_sub(1))
     }
 
-    ghost Foresees = { AreCutOrKeep KeepsGiven };
+    ghost Foresees = { λ ts. Unit {0} };
 
     fn foresees(effects: &Effects<'_>) -> bool {
-        keep_given(effects)
+        let _ = effects;
+        true
     }
 
     fn observes(effect: &Effect<'_>) -> bool {
         gives_other(effect)
     }
 
-    ghost IsUnaffected = { λ g p m t. ⊥ };
+    ghost IsUnaffected = { λ g p m t. IsHeldOn p m t };
 
     fn is_affected(&self, inst: &Instance, monitor: Monitor, effect: &Effect<'_>) -> bool {
-        let _ = inst;
-        let _ = monitor;
-        let _ = effect;
-        true
+        hands_other(inst, monitor, self.places.as_slice(), effect)
     }
 
     fn observes_cuts() -> bool {
@@ -130,8 +127,11 @@ impl Gauge for Holders {
         effects: &Effects<'_>,
     ) -> u64 {
         let _ = told;
-        let _ = effects;
-        self.value(inst, monitor)
+        inst.facts();
+        let handings = handings_of(inst, monitor, self.places.as_slice(), effects);
+        let candidates = self.candidates.as_slice();
+        let above = above_after(candidates, self.counts.as_slice(), self.above, &handings);
+        u64::from(above.saturating_sub(1))
     }
 
     ghost exact = { λ g p m s k. shared_exact p m s g.candidates g.counts.items g.above k.0 };
@@ -141,7 +141,10 @@ impl Gauge for Holders {
       kept.1,
     ) };
 
-    ghost unaffected = { λ g p m s t h turns kept. absurd h };
+    ghost unaffected = { λ g p m s t h turns kept. (
+      shared_on p m s t g.candidates g.counts.items g.above (h s turns) turns kept.0,
+      kept.1,
+    ) };
 
     ghost elsewhere = { λ g p m s k x l same named kept.
         (shared_elsewhere p m s k x g.candidates g.counts.items g.above l same named kept.0, kept.1) };
@@ -210,7 +213,7 @@ fn turned(
 }
 
 // What a place is given: nothing where there is none of the number.
-fn given_at(given: &[Option<ResourceId>], place: usize) -> Option<ResourceId>
+pub(crate) fn given_at(given: &[Option<ResourceId>], place: usize) -> Option<ResourceId>
     ensures { result ≡ slice_index_or given.now place None }
 {
     match given.get(place) {
@@ -220,7 +223,7 @@ fn given_at(given: &[Option<ResourceId>], place: usize) -> Option<ResourceId>
 }
 
 // Whether a place is given something else.
-fn is_other(before: Option<ResourceId>, after: Option<ResourceId>) -> bool
+pub(crate) fn is_other(before: Option<ResourceId>, after: Option<ResourceId>) -> bool
     ensures same { result ≡ false → before ≡ after }
     ensures differ { result ≡ true → before ≡ after → ⊥ }
 {
@@ -268,7 +271,7 @@ fn fall(candidates: &[u32], counts: &mut Vec<u32>, above: u32, given: Option<Res
 }
 
 // The place of a number among ascending ones, by binary search.
-fn place_among(numbers: &[u32], number: u32) -> usize
+pub(crate) fn place_among(numbers: &[u32], number: u32) -> usize
     requires ascending { AreAscending numbers.now }
     requires listed { IsListed numbers.now number }
     ensures { slice_get numbers.now result ≡ Some number }

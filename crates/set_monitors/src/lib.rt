@@ -9,6 +9,7 @@ mod avoid_split_assignments;
 mod candidates;
 mod event_ranks;
 mod foreseeing;
+mod holder_effects;
 mod least_trees;
 mod link_events;
 mod link_runs;

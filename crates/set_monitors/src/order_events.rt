@@ -1,21 +1,21 @@
 //! Order Events.
 
-ghost use Rattle.std.specs.Prelude.{◌≡◌, ◌≢◌, [], length, IfOk};
+ghost use Rattle.std.specs.Prelude.{◌≡◌, ◌≢◌, [], true, length, IfOk};
 ghost use Rattle.khe_told.specs.Slots.{no_meets};
 ghost use Rattle.khe_told.specs.Turns.{IsTurn, turned};
-ghost use Rattle.set_monitors.specs.MeetEdges.{AreEdges, IsEdges};
+ghost use Rattle.set_monitors.specs.Foreseeing.{AllKeep};
+ghost use Rattle.set_monitors.specs.MeetEdges.{AreEdges, IsEdges, LeavesEdges};
 
-use crate::foreseeing::keep_meets;
 use crate::meet_edges::Edges;
 use crate::order_pairs::value;
 use crate::order_posts::posts_of;
 use crate::order_waits::add_all;
 use crate::pair_lists::lists_of;
-use event_monitors::Post;
+use event_monitors::{Post, alters_meet};
 use family_keepers::{Keeper, Keeping};
 use khe_base::{EventId, MonitorId, NoMemory, Seq, beside};
 use khe_instance::{EventInfo, Instance, Kind};
-use khe_told::{Effects, Told, Turn, Waits};
+use khe_told::{Effect, Effects, Told, Turn, Waits};
 use std::alloc::Global;
 
 /// The family of Order Events: a monitor's deviation is how far the times from the end of its first
@@ -40,9 +40,8 @@ pub struct OrderEdges {
 impl Keeper for OrderEdges {
     ghost use Rattle.std.specs.Prelude.{◌≡◌};
     ghost use Rattle.event_monitors.specs.Posts.{ArePosts, AreListed};
-    ghost use Rattle.event_monitors.specs.Shares.{KeepsMeet};
     ghost use Rattle.set_monitors.specs.Foreseeing.{AreCutOrKeep};
-    ghost use Rattle.set_monitors.specs.MeetEdges.{AreEdges, AreShort};
+    ghost use Rattle.set_monitors.specs.MeetEdges.{AreEdges, AreShort, LeavesEdges};
     ghost use Rattle.set_monitors.specs.OrderPairs.{is_order};
 
     ghost serves_kind = { is_order };
@@ -51,7 +50,7 @@ impl Keeper for OrderEdges {
 
     ghost Keeps = { λ f p s. ArePosts p is_order f.posts × AreListed p f.posts f.lists × AreEdges p f.lists s f.edges.items × AreShort s };
 
-    ghost Foresees = { λ f p ts. AreCutOrKeep KeepsMeet ts };
+    ghost Foresees = { λ f p ts. AreCutOrKeep (LeavesEdges f.lists) ts };
 
     fn open(alloc: Global, inst: &Instance) -> Result<OrderEdges, NoMemory> {
         let posts = posts_of(alloc, inst)?;
@@ -92,7 +91,7 @@ impl Keeper for OrderEdges {
 
     fn foresees(&self, inst: &Instance, effects: &Effects<'_>) -> bool {
         let _ = inst;
-        keep_meets(effects)
+        effects.is_cut() || leave_edges(self.lists.as_slice(), effects)
     }
 
     fn queue_affected<W: Waits>(
@@ -119,6 +118,33 @@ impl Keeper for OrderEdges {
         let _ = effects;
         inst.facts();
         self.deviation(inst, monitor)
+    }
+}
+
+/// Whether each slot would keep its meet, or is of an event without a list. It takes constant time.
+fn leave_edges(lists: &[Seq<u32>], effects: &Effects<'_>) -> bool
+    ensures { result ≡ true → AllKeep (LeavesEdges lists.now) effects.now }
+{
+    let (first, second) = effects.slots();
+    if !leaves_edges(lists, first) {
+        return false;
+    }
+    match second {
+        Some(second) => leaves_edges(lists, second),
+        None => true,
+    }
+}
+
+/// The same of one slot.
+fn leaves_edges(lists: &[Seq<u32>], effect: &Effect<'_>) -> bool
+    ensures { result ≡ true → LeavesEdges lists.now effect.now }
+{
+    if !alters_meet(effect) {
+        return true;
+    }
+    match lists.get(effect.event().0 as usize) {
+        Some(list) => list.is_empty(),
+        None => true,
     }
 }
 

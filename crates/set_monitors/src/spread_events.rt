@@ -35,7 +35,8 @@ impl Gauge for Starts {
     ghost use Rattle.khe_instance.specs.KindLaws.{is_kind};
     ghost use Rattle.khe_instance.specs.declared.rules.Kind.TheVariants as kind;
     ghost use Rattle.event_monitors.specs.Shares.{KeepsMeet};
-    ghost use Rattle.set_monitors.specs.SpreadEvents.{IsSpread, spread_elsewhere, spread_exact, spread_unaffected, spread_unheard, start_in};
+    ghost use Rattle.set_monitors.specs.SpreadEvents.{IsSpread, spread_elsewhere, spread_exact, spread_unaffected};
+    ghost use Rattle.set_monitors.specs.SpreadEvents.{spread_unheard, start_in};
 
     ghost serves_kind = { λ k. is_kind k kind.SpreadEvents };
 

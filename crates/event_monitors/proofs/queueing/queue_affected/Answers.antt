@@ -1,7 +1,7 @@
-use Rattle.std.proofs.Common.{◌≡◌, ◌∙◌, [], Some, slice_get, sym, ap, subst}
+use Rattle.std.proofs.Common.{◌≡◌, ◌∙◌, [], Some, slice_get, ap, subst}
 use Rattle.event_monitors.specs.Effects.{HoldOrWait}
 use Rattle.event_monitors.specs.Posts.{posts_at}
-use Rattle.event_monitors.proofs.EffectLaws.{listed_kept, turn_kept}
+use Rattle.event_monitors.proofs.EffectLaws.{listed_kept}
 use Rattle.event_monitors.proofs.queueing.queue_affected.Goals as goal
 
 pub returns-clause-keeps : goal.returns-clause-keeps

@@ -1,6 +1,5 @@
-use Rattle.std.proofs.Common.{◌≡◌, ◌∙◌, [], Some, slice_get, refl, sym, ap, subst}
+use Rattle.std.proofs.Common.{◌≡◌, ◌∙◌, [], Some, slice_get, refl, ap, subst}
 use Rattle.event_monitors.specs.Effects.{HoldOrWait, IsUncut}
-use Rattle.event_monitors.specs.Posts.{posts_at}
 use Rattle.event_monitors.specs.Turns.{has}
 use Rattle.event_monitors.proofs.TurnLaws.{listed_as}
 use Rattle.event_monitors.proofs.queueing.queue_cut.Goals as goal

@@ -9,7 +9,8 @@ use Rattle.event_monitors.proofs.queueing.queue_cut_listed.Goals as goal
 pub loop-place-init : goal.loop-place-init
 loop-place-init g c = record {
   monitors = refl;
-  uncut = λ hears. hold_start (λ k a. (x : g.row.G.Denot) → slice_get c.args.gauges.now k ≡ Some x → IsUncut g.G.Gauge.Keeps g.G.Gauge.value x) c.args.posts.now
+  uncut = λ hears. hold_start (λ k a. (x : g.row.G.Denot) → slice_get c.args.gauges.now k ≡ Some x → IsUncut
+      g.G.Gauge.Keeps g.G.Gauge.value x) c.args.posts.now
       c.args.list.now (g.W.Waits.waits c.args.waits.now);
   kept = λ i h. h;
 }
@@ -53,7 +54,8 @@ loop-place-preserved g c =
     let one = c.queue_one_cut.ensures in
     let now = g.W.Waits.waits c.loop-place.waits in
     let new = g.W.Waits.waits c.queue_one_cut.new.waits in
-    let fact : ℕ → Post → Type 0 = (λ k a. (x : g.row.G.Denot) → slice_get c.args.gauges.now k ≡ Some x → IsUncut g.G.Gauge.Keeps g.G.Gauge.value x) in
+    let fact : ℕ → Post → Type 0 = (λ k a. (x : g.row.G.Denot) → slice_get c.args.gauges.now k ≡ Some x → IsUncut
+    g.G.Gauge.Keeps g.G.Gauge.value x) in
     let within : k < length c.args.gauges.now = let a = spot_within p posts e list i no_post is l in
     let b = c.requires.amount in omega (arith, a, b) in
     let gauge = c.index-gauges-k.result in

@@ -1,6 +1,6 @@
 use Rattle.std.proofs.Common.{ℕ, ◌≡◌, ◌<◌, ◌+◌, ◌∙◌, Some, length, get_or, drop, slice_get, refl, sym, ap, subst, arith}
 use Rattle.std.proofs.lemmas.Option.{same_Some, slice_get-get_or, slice_get_within}
-use Rattle.event_monitors.specs.Effects.{HoldOrWait, IsUncut}
+use Rattle.event_monitors.specs.Effects.{HoldOrWait}
 use Rattle.event_monitors.specs.declared.posts.Post.{Post}
 use Rattle.event_monitors.proofs.EffectLaws.{hold_start, hold_step}
 use Rattle.event_monitors.proofs.TurnLaws.{no_post, spot_drop, spot_post, spot_within}
@@ -9,7 +9,8 @@ use Rattle.event_monitors.proofs.queueing.queue_listed.Goals as goal
 pub loop-place-init : goal.loop-place-init
 loop-place-init g c = record {
   monitors = refl;
-  unaffected = λ hears. hold_start (λ k a. (x : g.row.G.Denot) → slice_get c.args.gauges.now k ≡ Some x → g.G.Gauge.IsUnaffected x c.args.inst.now a.monitor c.args.effect.now) c.args.posts.now
+  unaffected = λ hears. hold_start (λ k a. (x : g.row.G.Denot) → slice_get c.args.gauges.now k ≡ Some x →
+      g.G.Gauge.IsUnaffected x c.args.inst.now a.monitor c.args.effect.now) c.args.posts.now
       c.args.list.now (g.W.Waits.waits c.args.waits.now);
   kept = λ i h. h;
 }
@@ -71,7 +72,8 @@ loop-place-preserved g c =
     let one = c.queue_one.ensures in
     let now = g.W.Waits.waits c.loop-place.waits in
     let new = g.W.Waits.waits c.queue_one.new.waits in
-    let fact : ℕ → Post → Type 0 = (λ k a. (x : g.row.G.Denot) → slice_get c.args.gauges.now k ≡ Some x → g.G.Gauge.IsUnaffected x c.args.inst.now a.monitor c.args.effect.now) in
+    let fact : ℕ → Post → Type 0 = (λ k a. (x : g.row.G.Denot) → slice_get c.args.gauges.now k ≡ Some x →
+    g.G.Gauge.IsUnaffected x c.args.inst.now a.monitor c.args.effect.now) in
     let within : k < length c.args.gauges.now = let a = spot_within p posts e list i no_post is l in
     let b = c.requires.amount in omega (arith, a, b) in
     let gauge = c.index-gauges-k.result in
@@ -82,6 +84,7 @@ loop-place-preserved g c =
       unaffected = λ hears. hold_step fact posts list (drop (i + 1) list) k a now new at one.kept
           (λ not x here. subst (λ y. g.G.Gauge.IsUnaffected y p a.monitor c.args.effect.now)
           (same_Some gauge x (sym found ∙ here)) (one.unaffected hears not))
-          (subst (λ xs. HoldOrWait fact posts list xs now) (spot_drop p posts e list i no_post is l) (so.unaffected hears));
+          (subst (λ xs. HoldOrWait fact posts list xs now) (spot_drop p posts e list i no_post is l) (so.unaffected
+          hears));
       kept = λ j h. one.kept j (so.kept j h);
     }

@@ -1,9 +1,7 @@
-use Rattle.std.proofs.Common.{ℕ, ◌≡◌, ◌≤◌, ◌<◌, ◌+◌, ◌*◌, ◌∙◌, Bool, List, Some, get_or, slice_get, length, refl, sym, ap, subst}
+use Rattle.std.proofs.Common.{◌≡◌, ◌≤◌, ◌<◌, ◌∙◌, Some, get_or, slice_get, length, sym, ap}
 use Rattle.std.proofs.Common.{arith}
 use Rattle.std.proofs.lemmas.List.{drop_all, take_all}
 use Rattle.std.proofs.lemmas.Option.{slice_get-get_or}
-use Rattle.khe_base.specs.declared.limits.TheConstants.{DURATION, LISTED, NUMBER}
-use Rattle.khe_instance.specs.declared.rules.Spread.{Spread}
 use Rattle.set_monitors.specs.SpreadEvents.{counted_then, spread_by}
 use Rattle.set_monitors.proofs.SpreadLaws.{follows_next}
 use Rattle.set_monitors.proofs.spread_effects.outside_after.Goals as goal

@@ -1,7 +1,7 @@
-use Rattle.std.proofs.Common.{◌≡◌, ◌<◌, ◌∙◌, Option, Some, None, List, [], ◌∷◌, length, slice_get, sym, ap, subst, arith}
+use Rattle.std.proofs.Common.{◌≡◌, ◌∙◌, Some, None, slice_get, sym, ap, subst, arith}
 use Rattle.std.specs.Option.{option_map}
-use Rattle.khe_told.specs.Effects.{AreTurns, effects_of, turned_all}
-use Rattle.khe_told.specs.Turns.{IsTurn, SlotTurn, turned}
+use Rattle.khe_told.specs.Effects.{effects_of, turned_all}
+use Rattle.khe_told.specs.Turns.{turned}
 use Rattle.khe_told.specs.Waits.{AreUnmoved}
 use Rattle.event_monitors.specs.Effects.{AreKeptOrWait}
 use Rattle.event_monitors.specs.Posts.{AreKept, names}

@@ -1,4 +1,4 @@
-use Rattle.std.proofs.Common.{◌≡◌, ◌∙◌, map, sym, ap, subst}
+use Rattle.std.proofs.Common.{◌∙◌, map, sym, ap, subst}
 use Rattle.khe_instance.specs.declared.rules.Spread.{Spread}
 use Rattle.khe_told.specs.Effects.{turned_all}
 use Rattle.set_monitors.specs.SpreadEvents.{AreCounts, AreFew, IsSpread, spread_by, spread_exact, spreads_of, started}
@@ -16,7 +16,8 @@ outside_after-requires-clause-few c =
 -- what would be kept
 kept : (c : goal.After-outside_after) → IsSpread c.args.inst.now c.args.monitor
     (turned_all c.args.told.now c.args.effects.now)
-    (map (λ (q : Spread). started c.args.inst.now c.args.monitor (turned_all c.args.told.now c.args.effects.now) q.group)
+    (map (λ (q : Spread). started c.args.inst.now c.args.monitor (turned_all c.args.told.now c.args.effects.now)
+    q.group)
     (spreads_of c.args.inst.now c.args.monitor)) c.outside_after.result
 kept c =
     let p = c.args.inst.now in
@@ -36,7 +37,8 @@ kept c =
 
 pub returns-clause-value : goal.returns-clause-value
 returns-clause-value c = spread_exact c.args.inst.now c.args.monitor (turned_all c.args.told.now c.args.effects.now)
-    (map (λ (q : Spread). started c.args.inst.now c.args.monitor (turned_all c.args.told.now c.args.effects.now) q.group)
+    (map (λ (q : Spread). started c.args.inst.now c.args.monitor (turned_all c.args.told.now c.args.effects.now)
+    q.group)
     (spreads_of c.args.inst.now c.args.monitor)) c.outside_after.result (kept c)
 
 pub returns-clause-small : goal.returns-clause-small
