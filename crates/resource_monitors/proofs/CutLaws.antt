@@ -33,13 +33,13 @@ use Rattle.resource_monitors.proofs.LoadStepLaws.{unmoved_by as loads_unmoved_by
 use Rattle.resource_monitors.proofs.TurnLaws.{cell_in, tasks_exchanged}
 
 -- whether a time is one of a run
-in_yes : (start end t : ℕ) → start ≤ t → t < end → in_run start end t ≡ true
+pub in_yes : (start end t : ℕ) → start ≤ t → t < end → in_run start end t ≡ true
 in_yes start end t a b = and_from _ _ (le-leb start t a) (lt-ltb t end b)
 
-in_not_before : (start end t : ℕ) → t < start → in_run start end t ≡ false
+pub in_not_before : (start end t : ℕ) → t < start → in_run start end t ≡ false
 in_not_before start end t a = ap (λ b. b && nat_lt t end) (lt-leb start t a)
 
-in_not_after : (start end t : ℕ) → end ≤ t → in_run start end t ≡ false
+pub in_not_after : (start end t : ℕ) → end ≤ t → in_run start end t ≡ false
 in_not_after start end t a = ap (λ b. nat_le start t && b) (le-ltb t end a) ∙ by (nat_le start t)
   where
     by : (b : Bool) → (b && false) ≡ false

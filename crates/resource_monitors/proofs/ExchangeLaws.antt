@@ -48,7 +48,7 @@ given_rest q (o ∷ given) (suc i) =
     let r = given_rest q given i in
     omega (arith, a, b, r)
 
-cells_more : (run : Option Run) (given : List (Option ResourceId)) (i q t : ℕ) → i < length given
+pub cells_more : (run : Option Run) (given : List (Option ResourceId)) (i q t : ℕ) → i < length given
     → cells_of run (take (i + 1) given) q t ≡ cells_of run (take i given) q t
     + cells_of run (get_or given i None ∷ []) q t
 cells_more None given i q t l = refl
@@ -126,7 +126,7 @@ pub passed_over : (emptied filled : Option Run) (o n : Option ResourceId) (f : �
 passed_over emptied filled o n f e s q t = λ i. f q t + cells_of (e i) (s i ∷ []) q t
 
 -- no place
-cells_none : (run : Option Run) (q t : ℕ) → cells_of run [] q t ≡ 0
+pub cells_none : (run : Option Run) (q t : ℕ) → cells_of run [] q t ≡ 0
 cells_none None q t = refl
 cells_none (Some run) q t = by (in_run run.start run.end t)
   where

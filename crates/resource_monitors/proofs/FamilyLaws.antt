@@ -35,7 +35,7 @@ use Rattle.resource_monitors.proofs.TurnLaws.{turned_busy, turned_same}
 use Rattle.resource_monitors.proofs.WaitLaws.{posted}
 
 -- a place is given a resource, or not
-given_or_not : (o : Option ResourceId) (q : ResourceId) → (o ≡ Some q) ⊎ (given_to q.0 (o ∷ []) ≡ 0)
+pub given_or_not : (o : Option ResourceId) (q : ResourceId) → (o ≡ Some q) ⊎ (given_to q.0 (o ∷ []) ≡ 0)
 given_or_not None q = inr refl
 given_or_not (Some x) q = by (is_resource q.0 (Some x)) refl
   where

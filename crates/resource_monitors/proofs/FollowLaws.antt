@@ -86,7 +86,7 @@ module _ (p : Parts) (made : AreWellMade p) (s : List Slot) (t : SlotTurn) (turn
       → y.start ≡ Some q → q.0 + y.duration < 2 ^ 32
   below_after = below p made t.after slot_after
 
-  exchanged : (q r : ℕ) → running_tasks (duties_in (turned s t)) q r + cell_in t.before q r
+  pub exchanged : (q r : ℕ) → running_tasks (duties_in (turned s t)) q r + cell_in t.before q r
       ≡ running_tasks (duties_in s) q r + cell_in t.after q r
   exchanged q r = subst (λ x. running_tasks (duties_in (turned s t)) q r + cell_in x q r
       ≡ running_tasks (duties_in s) q r + cell_in t.after q r) turns.slot

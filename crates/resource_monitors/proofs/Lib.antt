@@ -1,4 +1,6 @@
+pub mod CellEffectLaws
 pub mod ClashLaws
+pub mod ClashShiftLaws
 pub mod CountLaws
 pub mod CutLaws
 pub mod ExchangeLaws
@@ -18,6 +20,7 @@ pub mod OverLaws
 pub mod PlaceLaws
 pub mod PostLaws
 pub mod RunLaws
+pub mod ShiftLaws
 pub mod SmallLaws
 pub mod StateLaws
 pub mod TurnLaws

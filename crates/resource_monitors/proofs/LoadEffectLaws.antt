@@ -2,7 +2,7 @@
 use Rattle.std.proofs.Common.{ℕ, ◌≡◌, ◌≤◌, ◌<◌, ◌+◌, ◌*◌, ◌^◌, ◌∙◌, ◌⊎◌, inl, inr, Bool, true, false, cond, Option}
 use Rattle.std.proofs.Common.{Some, None, List, [], ◌∷◌, set, take, get_or, length, slice_get, refl, sym, ap, subst}
 use Rattle.std.proofs.Common.{arith}
-use Rattle.std.specs.Option.{option_map, option_map_or}
+use Rattle.std.specs.Option.{option_map_or}
 use Rattle.std.specs.Prelude.{◌==◌}
 use Rattle.std.proofs.lemmas.Bool.{eq-eqb, eqb-true, true≢false}
 use Rattle.std.proofs.lemmas.List.{length-set, take_all}
@@ -12,7 +12,6 @@ use Rattle.khe_base.specs.declared.numbers.EventId.{EventId}
 use Rattle.khe_base.specs.declared.numbers.ResourceId.{ResourceId}
 use Rattle.khe_instance.specs.Deviation.{deviation_at}
 use Rattle.khe_instance.specs.ResourceDeviation.{limit_workload, workload_in}
-use Rattle.khe_instance.specs.Running.{is_resource}
 use Rattle.khe_instance.specs.Watching.{is_at}
 use Rattle.khe_instance.specs.WellMade.{AreWellMade, IsMonitor}
 use Rattle.khe_instance.specs.declared.parts.Parts.{Parts}
@@ -25,7 +24,7 @@ use Rattle.khe_told.specs.Effects.{AreTurns, effects_of, given_with, turned_all}
 use Rattle.khe_told.specs.declared.effects.Regiven.{Regiven}
 use Rattle.khe_told.specs.Lists.{duties_in, meets_in}
 use Rattle.khe_told.specs.Slots.{length_of, no_slot, slot_at}
-use Rattle.khe_told.specs.Turns.{IsTurn, SlotTurn, duration_of, turned}
+use Rattle.khe_told.specs.Turns.{IsTurn, SlotTurn, turned}
 use Rattle.khe_told.specs.Waits.{AreUnmoved, WaitOn}
 use Rattle.khe_told.specs.declared.slots.Slot.{Slot}
 use Rattle.resource_monitors.specs.Effects.{AreLoadsQueued, AreQueued, IsPlaceQueued, load_in}
@@ -33,7 +32,7 @@ use Rattle.resource_monitors.specs.Loads.{is_on_workload, outside, part_of, wort
 use Rattle.resource_monitors.specs.Posts.{AreAdded, post, posts_of}
 use Rattle.resource_monitors.specs.declared.posts.Post.{Post}
 use Rattle.resource_monitors.proofs.LoadBoundLaws.{load_small}
-use Rattle.resource_monitors.proofs.LoadFollowLaws.{exchanged, lengths_of, worth_before}
+use Rattle.resource_monitors.proofs.LoadFollowLaws.{exchanged, worth_before}
 use Rattle.resource_monitors.proofs.LoadLaws.{load_of, loads_exchanged, worths_more}
 use Rattle.resource_monitors.proofs.LoadValueLaws.{on_workload}
 use Rattle.resource_monitors.proofs.WaitLaws.{posted}

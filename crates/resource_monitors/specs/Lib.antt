@@ -7,3 +7,4 @@ pub mod Loads
 pub mod Posts
 pub mod Runs
 pub mod Sets
+pub mod Shifts

@@ -10,6 +10,7 @@ ghost use Rattle.resource_monitors.specs.Cells.{HasRows};
 ghost use Rattle.resource_monitors.specs.Posts.{AreLists};
 ghost use Rattle.resource_monitors.specs.Sets.{room_for};
 
+use crate::cell_effects::{is_short, queue_effect, value_after};
 use crate::cell_values::value;
 use crate::cell_waits::Audience;
 use crate::kinds::CellKinds;
@@ -31,7 +32,8 @@ use std::marker::PhantomData;
 /// It keeps a timetable, the masks of the constraints' sets of times and for each resource the monitors at it.
 /// A slot that changes turns the counts of the cells that are emptied or filled, and then queues the monitors
 /// at their resources that list one of the times. Monitors that are measured by busy times alone are passed
-/// over where no resource may have become busy or free.
+/// over where no resource may have become busy or free. A cut is always foreseen, and any other effects where the
+/// instance has at most 64 times, one word of busy times for each resource.
 pub struct Cells<K> {
     table: CellTable,
     sets: TimeSets,
@@ -98,8 +100,9 @@ fn turn_cells<K: CellKinds, W: Waits>(
 }
 
 impl<K: CellKinds> Keeper for Cells<K> {
-    ghost use Rattle.std.specs.Prelude.{◌≡◌};
+    ghost use Rattle.std.specs.Prelude.{◌≡◌, ◌⊎◌};
     ghost use Rattle.khe_told.specs.Effects.{AreCut};
+    ghost use Rattle.resource_monitors.specs.Effects.{IsShort};
     ghost use Rattle.resource_monitors.specs.Kept.{AreKept};
 
     ghost serves_kind = { K.serves_kind };
@@ -108,7 +111,7 @@ impl<K: CellKinds> Keeper for Cells<K> {
 
     ghost Keeps = { λ f p s. AreKept K.serves_kind p s f.table f.sets f.lists.items };
 
-    ghost Foresees = { λ f p ts. AreCut ts };
+    ghost Foresees = { λ f p ts. AreCut ts ⊎ IsShort p };
 
     fn open(alloc: Global, inst: &Instance) -> Result<Cells<K>, NoMemory> {
         inst.facts();
@@ -139,8 +142,7 @@ impl<K: CellKinds> Keeper for Cells<K> {
     }
 
     fn foresees(&self, inst: &Instance, effects: &Effects<'_>) -> bool {
-        let _ = inst;
-        effects.is_cut()
+        effects.is_cut() || is_short(inst)
     }
 
     fn queue_affected<W: Waits>(
@@ -151,9 +153,21 @@ impl<K: CellKinds> Keeper for Cells<K> {
         waits: &mut W,
     ) {
         inst.facts();
-        let _ = told;
-        let _ = effects;
-        let _ = waits;
+        if !is_short(inst) {
+            return;
+        }
+        if effects.is_cut() {
+            return;
+        }
+        if !W::hears() {
+            return;
+        }
+        let lists = self.lists.as_slice();
+        let (first, second) = effects.slots();
+        queue_effect::<K, W>(inst, told, effects, first, &self.table, lists, waits);
+        if let Some(second) = second {
+            queue_effect::<K, W>(inst, told, effects, second, &self.table, lists, waits);
+        }
     }
 
     fn deviation_after(
@@ -163,8 +177,11 @@ impl<K: CellKinds> Keeper for Cells<K> {
         effects: &Effects<'_>,
         monitor: MonitorId,
     ) -> u64 {
-        let _ = told;
-        let _ = effects;
-        self.deviation(inst, monitor)
+        inst.facts();
+        if !is_short(inst) {
+            return self.deviation(inst, monitor);
+        }
+        let of = inst.monitor(monitor);
+        value_after(inst, told, effects, &self.sets, &self.table, of)
     }
 }

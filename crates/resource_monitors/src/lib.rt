@@ -4,6 +4,7 @@
 //! keepers of all six kinds as one.
 #![tactic(auto)]
 
+mod cell_effects;
 mod cell_turns;
 mod cell_values;
 mod cell_waits;
@@ -24,8 +25,11 @@ mod posts;
 mod regiven;
 mod resource_keepers;
 mod rooms;
+mod row_measures;
 mod runs;
+mod shifts;
 mod tables;
+mod words;
 
 pub use cells::Cells;
 pub use kinds::{

@@ -93,7 +93,7 @@ pub(crate) fn busy_outside(
 }
 
 /// How far the number of a set's busy times lies outside the bounds, and 0 where it has none.
-fn set_outside(busy: u32, least: u32, greatest: u32) -> u64
+pub(crate) fn set_outside(busy: u32, least: u32, greatest: u32) -> u64
     ensures value { result ≡ used_outside busy least greatest }
     ensures small { result < 2 ^ 33 }
 {

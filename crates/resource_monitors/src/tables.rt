@@ -1,9 +1,10 @@
 //! A timetable that knows how many tasks run beyond one.
 
-ghost use Rattle.std.specs.Prelude.{◌≡◌, ◌+◌, ◌-◌, ◌<◌, ◌≤◌, length, nat_lt, slice_index, IfOk};
+ghost use Rattle.std.specs.Prelude.{ℕ, ◌≡◌, ◌+◌, ◌-◌, ◌<◌, ◌≤◌, length, nat_lt, slice_index, IfOk};
 ghost use Rattle.std.specs.List.{range_with_len, sum_by};
 ghost use Rattle.khe_base.specs.declared.limits.TheConstants.{GREATEST_COUNT, TIMES};
-ghost use Rattle.timetables.specs.Counts.{no_counts, row_of, count_at, with_count, busy_times, idle_times};
+ghost use Rattle.khe_base.specs.Bits.{has_bit};
+ghost use Rattle.timetables.specs.Counts.{is_busy, no_counts, row_of, count_at, with_count, busy_times, idle_times};
 ghost use Rattle.resource_monitors.specs.Clashes.{HasClashes};
 
 use khe_base::{NoMemory, ResourceId, TimeId};
@@ -76,6 +77,16 @@ impl CellTable {
         ensures { result ≡ count_at self.now r.0 t.0 }
     {
         self.table.count(r, t)
+    }
+
+    /// The busy times of a resource, of the first 64: the bit of value 2^i is set where it is busy at the time i, and
+    /// nowhere else. It takes constant time.
+    pub(crate) fn word(&self, r: ResourceId) -> u64
+        requires resource { r.0 < length self.now }
+        requires times { 0 < length (row_of self.now r.0) }
+        ensures { (i : ℕ) → i < 64 → has_bit result i ≡ is_busy (row_of self.now r.0) i }
+    {
+        self.table.word(r, 0)
     }
 
     /// For each time, how many tasks of a resource run then beyond one. It takes constant time.

@@ -66,7 +66,7 @@ impl Mask {
 
     /// The number of members whose bit is set in a row of bits. It takes time in proportion to
     /// the words that have a member.
-    pub(crate) fn common(&self, row: &[u64]) -> u32
+    pub fn common(&self, row: &[u64]) -> u32
         requires { length row.now ≡ words_for (length self.now) }
         ensures { result ≡ count_below (λ t. has_member self.now t && is_set row.now t) (length self.now) }
     {
@@ -78,7 +78,7 @@ impl Mask {
     }
 
     /// Whether a member's bit is set in a row of bits. It takes no more time than to count them.
-    pub(crate) fn meets(&self, row: &[u64]) -> bool
+    pub fn meets(&self, row: &[u64]) -> bool
         requires { length row.now ≡ words_for (length self.now) }
         ensures { result ≡ nat_lt 0 (count_below (λ t. has_member self.now t && is_set row.now t) (length self.now)) }
     {
@@ -93,7 +93,7 @@ impl Mask {
 
     /// The number of members whose bit isn't set in a row of bits, while that of an earlier and
     /// of a later member is. It takes time in proportion to the words that have a member.
-    pub(crate) fn idle(&self, row: &[u64]) -> u32
+    pub fn idle(&self, row: &[u64]) -> u32
         requires { length row.now ≡ words_for (length self.now) }
         ensures { result ≡ count_below (is_idle_time (has_member self.now) (is_set row.now) (length self.now)) (length self.now) }
     {

@@ -1,10 +1,9 @@
 -- What is lost and gained.
-use Rattle.std.proofs.Common.{◌≡◌, ◌<◌, ◌≤◌, ◌+◌, ◌-◌, ◌^◌, ◌∙◌, length, sym, ap, subst, arith}
+use Rattle.std.proofs.Common.{◌≡◌, ◌<◌, ◌∙◌, length, sym, ap, subst, arith}
 use Rattle.std.specs.Option.{option_map_or}
 use Rattle.khe_told.specs.Effects.{given_with}
 use Rattle.khe_told.specs.Slots.{length_of}
 use Rattle.khe_told.specs.declared.slots.Span.{Span}
-use Rattle.resource_monitors.specs.Effects.{load_in}
 use Rattle.resource_monitors.specs.Loads.{worths_of}
 use Rattle.resource_monitors.proofs.LoadEffectLaws.{gained_within, lost_within}
 use Rattle.resource_monitors.proofs.LoadFollowLaws.{exchanged, known}

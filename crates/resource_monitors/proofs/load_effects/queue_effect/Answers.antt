@@ -1,11 +1,9 @@
 -- Place by place.
-use Rattle.std.proofs.Common.{◌≡◌, ◌<◌, ◌∙◌, ◌⊎◌, inl, inr, length, sym, ap, refl, subst, arith}
+use Rattle.std.proofs.Common.{◌∙◌, inl, inr, length, sym, ap, refl, arith}
 use Rattle.std.proofs.Common.{Option, Some, None, List, get_or, slice_get}
 use Rattle.std.proofs.lemmas.Option.{slice_get-get_or}
 use Rattle.khe_base.specs.declared.numbers.ResourceId.{ResourceId}
 use Rattle.khe_told.specs.Slots.{length_of}
-use Rattle.resource_monitors.specs.Effects.{IsPlaceQueued}
-use Rattle.resource_monitors.specs.Loads.{is_on_workload}
 use Rattle.resource_monitors.proofs.FollowLaws.{of_after, of_before, same_places}
 use Rattle.resource_monitors.proofs.LoadEffectLaws.{given_length, queued_all, queued_last, queued_none, queued_step}
 use Rattle.resource_monitors.proofs.LoadFollowLaws.{lengths_of}

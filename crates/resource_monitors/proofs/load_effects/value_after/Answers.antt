@@ -1,12 +1,11 @@
 -- What the rule measures of the resource's workload.
-use Rattle.std.proofs.Common.{ℕ, ◌≡◌, ◌<◌, ◌≤◌, ◌*◌, ◌∙◌, true, Some, length, sym, ap, refl, subst, arith}
+use Rattle.std.proofs.Common.{◌≡◌, ◌≤◌, ◌*◌, ◌∙◌, true, sym, ap, refl, subst, arith}
 use Rattle.std.proofs.lemmas.Bool.{eq-eqb, eqb-true}
 use Rattle.std.proofs.lemmas.Option.{slice_get_within}
 use Rattle.khe_base.specs.declared.limits.TheConstants.{GREATEST_DEVIATION}
 use Rattle.khe_instance.proofs.MadeLemmas.{constraint_made}
 use Rattle.khe_instance.specs.Watching.{is_at}
 use Rattle.khe_told.specs.Effects.{turned_all}
-use Rattle.resource_monitors.specs.Effects.{load_in}
 use Rattle.resource_monitors.specs.Loads.{outside}
 use Rattle.resource_monitors.proofs.LoadEffectLaws.{load_is_measured, load_small_after}
 use Rattle.resource_monitors.proofs.LoadValueLaws.{on_workload, outside_small}

@@ -1,6 +1,5 @@
 -- One more place.
-use Rattle.std.proofs.Common.{◌≡◌, ◌<◌, ◌+◌, ◌∙◌, length, sym, ap, refl, arith}
-use Rattle.std.proofs.Common.{None, get_or}
+use Rattle.std.proofs.Common.{◌+◌, ◌∙◌, ap, arith}
 use Rattle.std.proofs.lemmas.List.{take_all}
 use Rattle.khe_told.specs.Effects.{given_with}
 use Rattle.resource_monitors.specs.Loads.{part_of, worth_at, worths_of}
