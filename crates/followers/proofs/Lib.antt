@@ -6,6 +6,7 @@ pub mod MarkLaws
 pub mod OpenLaws
 pub mod PutLaws
 pub mod RowLaws
+pub mod RowsLaws
 pub mod SettleLaws
 pub mod StartLaws
 pub mod StillLaws

@@ -26,7 +26,7 @@ pub tie_other : (ties : List (Option Tie)) (m j : ℕ) (o : Option Tie) → j �
 tie_other ties m j o d = get_or-set_other ties m j o None d
 
 -- without ties no meet has a follower
-no_tie : (n j : ℕ) → tie_at (replicate n None) j ≡ None
+pub no_tie : (n j : ℕ) → tie_at (replicate n None) j ≡ None
 no_tie zero j = refl
 no_tie (suc n) zero = refl
 no_tie (suc n) (suc j) = no_tie n j

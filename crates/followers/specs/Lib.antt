@@ -7,6 +7,7 @@ pub mod Names
 pub mod Records
 pub mod Starts
 pub mod Still
+pub mod Rows
 pub mod Tables
 pub mod Ties
 pub mod Worlds

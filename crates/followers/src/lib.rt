@@ -9,6 +9,7 @@ mod edits;
 mod examples;
 mod lines;
 mod records;
+mod rows;
 mod table;
 mod tied;
 mod undoing;

@@ -2,9 +2,11 @@
 
 ghost use Rattle.std.specs.Prelude.{◌≡◌, ◌<◌, ◌^◌, ◌*◌, ◌+◌, None, Some, length, replicate, slice_set, IfOk, IfSome};
 ghost use Rattle.followers.specs.Links.{AreLinked, count_of};
+ghost use Rattle.followers.specs.Rows.{IsNextTie};
 ghost use Rattle.followers.specs.Ties.{leads, tie_at};
 
 use crate::Tie;
+use crate::rows::{first_set, mark, no_marks};
 use khe_base::{MeetId, NoMemory};
 use std::alloc::Global;
 use std::marker::Model;
@@ -23,6 +25,8 @@ pub(crate) struct Ties {
     prev: Vec<u32>,
     /// How many followers each meet has.
     counts: Vec<u32>,
+    /// One bit for each meet, set where it has a tie.
+    words: Vec<u64>,
 }
 
 // By hand: an exit of a caller then has one call to prove, and not a drop for each field.
@@ -34,6 +38,7 @@ impl Drop for Ties {
             next: _next,
             prev: _prev,
             counts: _counts,
+            words: _words,
         } = self;
     }
 }
@@ -41,13 +46,14 @@ impl Drop for Ties {
 impl Model for Ties {
     ghost use Rattle.std.specs.Prelude.{ℕ, ◌+◌, ◌*◌, ◌<◌, ◌^◌, Option, List, length};
     ghost use Rattle.followers.specs.Links.{AreLinked};
+    ghost use Rattle.followers.specs.Rows.{AreMarked};
     ghost use Rattle.followers.specs.declared.edits.Tie.{Tie};
 
     ghost Value = { List (Option Tie) };
 
     ghost view = { λ t. t.ties.items };
 
-    ghost invariant = { λ t. AreLinked t.ties.items t.first.items t.next.items t.prev.items t.counts.items × (2 * length t.ties.items + 1 < 2 ^ 32) };
+    ghost invariant = { λ t. AreLinked t.ties.items t.first.items t.next.items t.prev.items t.counts.items × (2 * length t.ties.items + 1 < 2 ^ 32) × AreMarked t.ties.items t.words.items };
 }
 
 /// The ties of all meets and the links of their followers.
@@ -73,12 +79,14 @@ impl Ties {
         let next = vec![in alloc; slots; count]?;
         let prev = vec![in alloc; slots; count]?;
         let counts = vec![in alloc; 0; count]?;
+        let words = no_marks(alloc, count)?;
         Ok(Ties {
             ties,
             first,
             next,
             prev,
             counts,
+            words,
         })
     }
 
@@ -141,6 +149,19 @@ impl Ties {
         number < links.ties.len() && 0 < links.counts[number]
     }
 
+    /// The first meet from a number on that has a tie. It looks at a word for each 64 meets up to there.
+    #[tactic(auto, using(crate::proofs::RowsLaws::no_tie_at, crate::proofs::RowsLaws::tie_there))]
+    pub fn next(&self, from: MeetId) -> Option<MeetId>
+        ensures next { IsNextTie self.now from.0 result }
+        ensures there { IfSome result (λ m. m.0 < length self.now) }
+        ensures small { IfSome result (λ m. m.0 + 1 < 2 ^ 32) }
+    {
+        match first_set(self.words.as_slice(), from.0 as usize) {
+            None => None,
+            Some(meet) => Some(MeetId(meet as u32)),
+        }
+    }
+
     /// How many meet slots there are.
     pub fn slots(&self) -> u32
         ensures slots { result ≡ length self.now }
@@ -164,6 +185,7 @@ impl Ties {
             meet.0,
             tie,
         );
+        mark(&mut self.words, meet.0 as usize, tie.is_some());
     }
 }
 

@@ -1,8 +1,9 @@
 //! A timetable with ties.
 
-ghost use Rattle.std.specs.Prelude.{◌≡◌, ◌↔◌, ◌≤◌, ◌<◌, ◌⊎◌, ◌∷◌, [], Err, None, List, drop, length, replicate, IfErr, IfOk, OnErr, OnOk};
+ghost use Rattle.std.specs.Prelude.{◌≡◌, ◌↔◌, ◌≤◌, ◌<◌, ◌+◌, ◌^◌, ◌⊎◌, ◌∷◌, [], Err, None, List, drop, length, replicate, IfErr, IfOk, IfSome, OnErr, OnOk};
 ghost use Rattle.khe_base.specs.declared.limits.TheConstants.{MARKS};
 ghost use Rattle.khe_told.specs.declared.refusals.Refusal.TheVariants.{NoMark, MarksFull};
+ghost use Rattle.followers.specs.Rows.{IsNextTie};
 ghost use Rattle.followers.specs.Ties.{IsTied, TiedState, tie_at};
 ghost use Rattle.khe_instance.specs.States.{IsValid};
 ghost use Rattle.khe_engine.specs.Openings.{IsStateOf};
@@ -89,6 +90,16 @@ impl<'i, F: Family> Tied<'i, F> {
         ensures { result.now ≡ self.now.now.ties }
     {
         self.ties.as_slice()
+    }
+
+    /// The first meet from a number on that has a tie, or `None` where there is none. It looks at a word for each 64
+    /// meets up to there.
+    pub fn next_tie(&self, from: MeetId) -> Option<MeetId>
+        ensures next { IsNextTie self.now.now.ties from.0 result }
+        ensures there { IfSome result (λ m. m.0 < length self.now.now.ties) }
+        ensures small { IfSome result (λ m. m.0 + 1 < 2 ^ 32) }
+    {
+        self.ties.next(from)
     }
 
     /// Opens a mark inside all open ones. It is refused where as many are open as may be.

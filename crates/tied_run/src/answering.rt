@@ -61,7 +61,7 @@ pub(crate) fn carry_out<F: Shortages, L: Ledger, G: Onward>(
             };
             Ok(carry_out_edit(alloc, tied, edit, text, steps)?)
         }
-        TiedCommand::Ties => push_ties(alloc, tied.ties(), text, onward),
+        TiedCommand::Ties => push_ties(alloc, tied, text, onward),
     }
 }
 

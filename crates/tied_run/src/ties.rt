@@ -6,9 +6,10 @@ ghost use Rattle.khe_io.specs.Faults.{Rose};
 ghost use Rattle.script_run.specs.Added.{IsAdded, IsCutOff};
 ghost use Rattle.tied_run.specs.Answers as spec;
 
-use followers::{Tie, TiedRefusal};
-use khe_base::{NoMemory, Text};
+use followers::{Tie, Tied, TiedRefusal};
+use khe_base::{MeetId, NoMemory, Text};
 use khe_io::Cut;
+use khe_told::Family;
 use script_run::Onward;
 use std::alloc::Global;
 
@@ -51,11 +52,17 @@ fn count_line(alloc: Global, count: usize) -> Result<Text, NoMemory>
     Ok(line)
 }
 
-/// How many meets have a tie.
-fn count_ties(ties: &[Option<Tie>]) -> usize
-    ensures { result ≡ count_by is_some ties.now }
+/// How many meets have a tie. It takes the time of these, and looks at a word for each 64 meet slots.
+fn count_ties<F: Family>(tied: &Tied<'_, F>) -> usize
+    ensures { result ≡ count_by is_some tied.now.now.ties }
 {
-    ties.iter().filter(|tie| tie.is_some()).count()
+    let mut count = 0;
+    let mut next = MeetId(0);
+    while let Some(meet) = tied.next_tie(next) {
+        count += 1;
+        next = MeetId(meet.0 + 1);
+    }
+    count
 }
 
 /// Adds the line of the tie of a meet, if it has one.
@@ -74,49 +81,51 @@ fn push_tie(
 }
 
 /// Adds how many ties there are, and the line of each, ascending by the follower, which go on while they grow. It takes
-/// time in proportion to the meet slots.
+/// the time of these, and looks at a word for each 64 meet slots.
 #[tactic(auto, using(script_run::proofs::AddedLaws::push_added, script_run::proofs::AddedLaws::push_cut, script_run::proofs::AddedLaws::cut_none))]
-pub(crate) fn push_ties<G: Onward>(
+pub(crate) fn push_ties<F: Family, G: Onward>(
     alloc: Global,
-    ties: &[Option<Tie>],
+    tied: &Tied<'_, F>,
     text: &mut Text,
     onward: &mut G,
 ) -> Result<(), Cut>
-    ensures added { OnOk result (IsAdded (G.taken onward.old) (G.taken onward.new) text.old (spec.ties_text ties.now) text.new) }
-    ensures front { OnErr result (IsCutOff (G.taken onward.old) (G.taken onward.new) text.old (spec.ties_text ties.now)) }
+    ensures added { OnOk result (IsAdded (G.taken onward.old) (G.taken onward.new) text.old (spec.ties_text tied.now.now.ties) text.new) }
+    ensures front { OnErr result (IsCutOff (G.taken onward.old) (G.taken onward.new) text.old (spec.ties_text tied.now.now.ties)) }
     ensures fault { IsErrOf result Cut.WriteFault → Rose (G.faults onward.old) (G.faults onward.new) }
     ensures faultless { OnOk result (G.faults onward.new ≡ G.faults onward.old) }
     ensures faultless_starved { IsErrOf result Cut.NoMemory → G.faults onward.new ≡ G.faults onward.old }
     ensures counted { G.faults onward.old ≤ G.faults onward.new }
 {
-    push_count(alloc, ties, text)?;
-    push_lines(alloc, ties, text, onward)
+    push_count(alloc, tied, text)?;
+    push_lines(alloc, tied, text, onward)
 }
 
 /// Adds how many ties there are.
-fn push_count(alloc: Global, ties: &[Option<Tie>], text: &mut Text) -> Result<(), NoMemory>
-    ensures { OnOk result (text.new ≡ text.old ++ spec.count_line (count_by is_some ties.now)) }
+fn push_count<F: Family>(alloc: Global, tied: &Tied<'_, F>, text: &mut Text) -> Result<(), NoMemory>
+    ensures { OnOk result (text.new ≡ text.old ++ spec.count_line (count_by is_some tied.now.now.ties)) }
 {
-    text.push_text(&count_line(alloc, count_ties(ties))?)
+    text.push_text(&count_line(alloc, count_ties(tied))?)
 }
 
 /// Adds the lines of ties.
-fn push_lines<G: Onward>(
+fn push_lines<F: Family, G: Onward>(
     alloc: Global,
-    ties: &[Option<Tie>],
+    tied: &Tied<'_, F>,
     text: &mut Text,
     onward: &mut G,
 ) -> Result<(), Cut>
-    ensures added { OnOk result (IsAdded (G.taken onward.old) (G.taken onward.new) text.old (spec.tie_lines ties.now) text.new) }
-    ensures front { OnErr result (IsCutOff (G.taken onward.old) (G.taken onward.new) text.old (spec.tie_lines ties.now)) }
+    ensures added { OnOk result (IsAdded (G.taken onward.old) (G.taken onward.new) text.old (spec.tie_lines tied.now.now.ties) text.new) }
+    ensures front { OnErr result (IsCutOff (G.taken onward.old) (G.taken onward.new) text.old (spec.tie_lines tied.now.now.ties)) }
     ensures fault { IsErrOf result Cut.WriteFault → Rose (G.faults onward.old) (G.faults onward.new) }
     ensures faultless { OnOk result (G.faults onward.new ≡ G.faults onward.old) }
     ensures faultless_starved { IsErrOf result Cut.NoMemory → G.faults onward.new ≡ G.faults onward.old }
     ensures counted { G.faults onward.old ≤ G.faults onward.new }
 {
-    for number in 0..ties.len() {
-        push_tie(alloc, number, ties[number], text)?;
+    let mut next = MeetId(0);
+    while let Some(meet) = tied.next_tie(next) {
+        push_tie(alloc, meet.0 as usize, tied.tie(meet), text)?;
         onward.pass(alloc, text)?;
+        next = MeetId(meet.0 + 1);
     }
     Ok(())
 }

@@ -1,15 +1,18 @@
 -- The lines so far and those of the meets that are left are those of all meets.
-use Rattle.std.proofs.Common.{◌≡◌, ◌++◌, drop}
-use Rattle.std.specs.List.{enumerate_from, flat_map}
+use Rattle.std.proofs.Common.{◌≡◌, ◌++◌, ◌-◌, length}
 use Rattle.khe_io.specs.Amid.{IsAmid}
-use Rattle.tied_run.specs.Answers.{numbered_line}
+use Rattle.tied_run.specs.Answers.{tie_lines}
+use Rattle.tied_run.proofs.TieLaws.{lines_from}
 use Rattle.tied_run.proofs.ties.push_lines.Given as goal
 
-abbrev pub invariant-loop-number : goal.invariant-loop-number
-invariant-loop-number g l =
-    let lines = flat_map numbered_line in
+abbrev pub invariant-loop-meet : goal.invariant-loop-meet
+invariant-loop-meet g l =
+    let ties = l.tied.now.ties in
     record {
-      amid : IsAmid (g.G.Onward.taken l.fn.onward) (g.G.Onward.taken l.onward) l.text
-          (lines (enumerate_from l.number (drop l.number l.ties))) (l.fn.text ++ lines (enumerate_from 0 l.ties));
+      amid : IsAmid (g.G.Onward.taken l.fn.onward) (g.G.Onward.taken l.onward) l.text (lines_from ties l.next.0)
+          (l.fn.text ++ tie_lines ties);
       faultless : g.G.Onward.faults l.onward ≡ g.G.Onward.faults l.fn.onward;
     }
+
+abbrev pub decreases-loop-meet : goal.decreases-loop-meet
+decreases-loop-meet g l = length l.tied.now.ties - l.next.0
