@@ -201,6 +201,25 @@ def check_looks(driver):
     driver.execute_cdp_cmd('Emulation.clearDeviceMetricsOverride', {})
 
 
+def check_moving(driver):
+    """Links to the top stay in sight, and so do heads; boxes that scroll are reached by keyboard and have a name."""
+    driver.execute_script('scrollTo(0, document.body.scrollHeight)')
+    top = driver.execute_script('return document.querySelector("nav.top").getBoundingClientRect().top')
+    wants(-1 <= top <= 1, f'the links that stay in sight are at {top}')
+    heads = driver.execute_script('return Array.from(document.querySelectorAll("thead th")).filter('
+                                  'h => getComputedStyle(h).position !== "sticky").length')
+    wants(heads == 0, f'{heads} heads do not stay in sight')
+    boxes = driver.execute_script(
+        'return Array.from(document.querySelectorAll(".wide, .one")).filter(b => b.tabIndex !== 0 || '
+        'b.getAttribute("role") !== "region" || !b.getAttribute("aria-label")).length')
+    wants(boxes == 0, f'{boxes} boxes that scroll without a name or out of reach')
+    broken = driver.execute_script(
+        'return Array.from(document.querySelectorAll("td, th")).filter(c => getComputedStyle(c).overflowWrap === "anywhere" '
+        '|| getComputedStyle(c).wordBreak === "break-all").length')
+    wants(broken == 0, f'{broken} cells in which words are broken')
+    driver.execute_script('scrollTo(0, 0)')
+
+
 def picture(driver, called):
     """A picture of the timetables of a solution, or of the top of the page."""
     driver.execute_script('scrollTo(0, 0); const s = document.querySelector("#s0 h3"); if (arguments[0]) s.scrollIntoView()',
@@ -241,6 +260,7 @@ try:
     check_search(driver)
     check_sorting(driver)
     check_escapes(driver)
+    check_moving(driver)
     check_looks(driver)
     check_quiet(driver)
 finally:

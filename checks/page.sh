@@ -61,6 +61,9 @@ printf '<' > "$work/bad.xml"
 status_of 3 "$work/bad.xml"
 grep -q 'khe: archive refused: 2 BadMarkup at 1' "$work/out" || { echo 'the page of a refusal'; failed=1; }
 status_of 0 "$top/examples/school_week.xml" --solutions 1
-grep -q 'Solution 1 is not shown' "$work/out" || { echo 'the option --solutions'; failed=1; }
+grep -q 'Of 2 solutions 1 have timetables below' "$work/out" || { echo 'the option --solutions'; failed=1; }
+status_of 2 "$work/made.xml" --solutions 1 --solution 0
+status_of 0 "$top/examples/school_week.xml" --solution 1 --workers 2
+grep -q '<section class=sol id=s1>' "$work/out" || { echo 'the option --solution'; failed=1; }
 [ "$failed" = 0 ] && echo 'checks/page.sh: all as it should be'
 exit "$failed"

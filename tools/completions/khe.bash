@@ -4,7 +4,7 @@ _khe() {
   local name=${COMP_WORDS[0]##*/} at=$COMP_CWORD option options='' words='' files=2
   COMPREPLY=()
   case $name in
-    khe-page) options='--solutions' files=1 ;;
+    khe-page) options='--solutions --solution --workers' files=1 ;;
     khe-talk) options='--demands' files=1 ;;
     *)
       case $first in
@@ -23,7 +23,7 @@ _khe() {
   # An option with a number takes that next, and none is given twice.
   case $before in
     --depth) words='1 2 3 4' ;;
-    --budget | --jobs | --workers | --solutions) return ;;
+    --budget | --jobs | --workers | --solutions | --solution) return ;;
     *) [ "$at" -le 1 ] || for option in $options; do
         [[ " ${COMP_WORDS[*]} " = *" $option "* ]] || words="$words $option"
       done ;;

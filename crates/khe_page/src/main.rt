@@ -5,6 +5,7 @@
 use khe_io::{FileShelf, StdSink};
 use std::process::ExitCode;
 use std::rt::{Env, Files};
+use std::thread::Threads;
 use std::{env, io};
 use timetable_page::{Status, page};
 
@@ -24,21 +25,22 @@ fn words<R: Env + AllocGlobal>(rt: &R) -> io::Result<Vec<String>> {
     }
 }
 
-/// Runs the program on the files and the output of a system. Where memory is refused while the words are taken,
-/// the status is 6.
-fn run<R: Env + Files + Print + AllocGlobal>(rt: &R) -> Status {
+/// Runs the program on the files and the output of a system. Where the words cannot be taken for
+/// want of memory the status is 6.
+fn run<R: Env + Files + Print + Threads + Sync + AllocGlobal>(rt: &R) -> Status {
     let Ok(words) = words(rt) else {
         return Status(6);
     };
     let mut shelf = FileShelf::new(rt);
     let mut out = StdSink::new(rt);
-    page(rt.alloc(), words.as_slice(), &mut shelf, &mut out)
+    page(rt, rt.alloc(), words.as_slice(), &mut shelf, &mut out)
 }
 
 /// What is said on standard error of a run that ended with a status above 0.
 fn told(status: u8) -> &'static str {
     match status {
-        2 => "khe-page: words not understood; they are: ARCHIVE [--solutions N]",
+        2 =>
+            "khe-page: words not understood; they are: ARCHIVE [--solutions N | --solution K ..] [--workers N]",
         3 => "khe-page: archive refused; the page says why",
         4 => "khe-page: the archive could not be read",
         5 => "khe-page: the page could not be written",

@@ -8,6 +8,7 @@ use khe_io::{FileShelf, MemorySink};
 use std::alloc::Global;
 use std::fs;
 use std::rt::Files;
+use std::thread::Threads;
 use timetable_page::page;
 
 /// Commands of `khe-page`, the status that each is to end with, how many bytes can be written then, and the file with
@@ -25,6 +26,12 @@ const MADE: &[(&str, u8, u64, &str)] = &[
         0,
         ROOM,
         "pages/names_0.html",
+    ),
+    (
+        "khe-page pages/names.xml --workers 3 --solution 1 --solution 9",
+        0,
+        ROOM,
+        "pages/names_1.html",
     ),
     (
         "khe-page pages/own_cells.xml",
@@ -46,11 +53,17 @@ const MADE: &[(&str, u8, u64, &str)] = &[
 const NOTHING: &[(&str, u8)] = &[
     ("khe-page", 2),
     ("khe-page pages/names.xml --solutions", 2),
+    ("khe-page pages/names.xml --solution 0 --solutions 1", 2),
+    ("khe-page pages/names.xml --workers 65", 2),
     ("khe-page nothing", 4),
 ];
 
 /// Compares what comes of commands of `khe-page` with what is to come.
-pub(crate) fn compare_pages<R: Files + Print + Alloc>(rt: &R, alloc: Global, tally: &mut Tally) {
+pub(crate) fn compare_pages<R: Threads + Files + Print + Alloc + Sync>(
+    rt: &R,
+    alloc: Global,
+    tally: &mut Tally,
+) {
     for (command, status, room, file) in MADE {
         compare_made(rt, alloc, tally, command, *status, *room, file);
     }
@@ -66,7 +79,7 @@ pub(crate) fn compare_pages<R: Files + Print + Alloc>(rt: &R, alloc: Global, tal
 
 /// Compares what comes of a command, where a number of bytes can be written, with a status and the first bytes of the
 /// page in a file.
-fn compare_made<R: Files + Print + Alloc>(
+fn compare_made<R: Threads + Files + Print + Alloc + Sync>(
     rt: &R,
     alloc: Global,
     tally: &mut Tally,
@@ -89,10 +102,10 @@ fn compare_made<R: Files + Print + Alloc>(
 }
 
 /// Writes the page that a command asks for to a sink with room for the given number of bytes.
-fn run<R: Files>(rt: &R, alloc: Global, command: &str, room: u64) -> Ran {
+fn run<R: Threads + Files + Sync>(rt: &R, alloc: Global, command: &str, room: u64) -> Ran {
     let words = words_of(alloc, command)?;
     let mut sink = MemorySink::new(alloc, room, 1_000_000, Seq::new(alloc))?;
     let mut shelf = FileShelf::new(rt);
-    let status = page(alloc, words.as_slice(), &mut shelf, &mut sink);
+    let status = page(rt, alloc, words.as_slice(), &mut shelf, &mut sink);
     Ok((status.0, sink))
 }

@@ -1,5 +1,5 @@
 -- A page that is put together section by section, on its way to a sink.
-use Rattle.std.proofs.Common.{ℕ, ◌≡◌, ◌+◌, ◌<◌, ◌≤◌, inl, inr, Option, Some, None, List, [], ◌++◌, length, min, refl, sym, ap}
+use Rattle.std.proofs.Common.{ℕ, ◌≡◌, ◌+◌, ◌<◌, ◌≤◌, inl, inr, Option, Some, None, List, [], ◌++◌, length, Bool, true, false, refl, sym, ap}
 use Rattle.std.proofs.Common.{subst, ◌∙◌, arith, append_assoc, add-one, length-append, encode_utf8_all, slice_get}
 use Rattle.std.proofs.lemmas.List.{append-nil, length-map}
 use Rattle.std.proofs.lemmas.List.FromFn.{length-map-range_with_len}
@@ -8,7 +8,7 @@ use Rattle.std.specs.Prelude.{IsSomeAnd}
 use Rattle.khe_io.specs.Amid.{IsAmid}
 use Rattle.khe_io.specs.Faults.{Took}
 use Rattle.khe_io.specs.Shelf.{StandsUnder, StandsAbove}
-use Rattle.khe_io.proofs.AmidLemmas.{amid-end, amid-flush}
+use Rattle.khe_io.proofs.AmidLemmas.{amid-end}
 use Rattle.khe_instance.specs.Costs.{cost_at}
 use Rattle.khe_instance.specs.Evaluated as evaluated
 use Rattle.khe_instance.specs.declared.parts.Parts.{Parts}
@@ -42,43 +42,41 @@ took_none : (o : Option (List ℕ)) → Took o o (encode_utf8_all [])
 took_none None = refl
 took_none (Some xs) = ap Some (sym (append-nil xs))
 
-pub first_amid : (o : Option (List ℕ)) (text : List ℕ) → IsAmid o o text [] text
+pub first_amid : (o : Option (List ℕ)) (text : List ℕ) → IsAmid o o [] (text ++ []) text
 first_amid o text = record { written = []; took = took_none o; is = append-nil text }
 
 -- a text is to follow what was written
-pub amid_text : (before now : Option (List ℕ)) (pending w text : List ℕ) → IsAmid before now pending [] w
-    → IsAmid before now pending (text ++ []) (w ++ text)
-amid_text before now pending w text h = record {
+pub amid_text : (before now : Option (List ℕ)) (w text : List ℕ) → IsAmid before now [] [] w
+    → IsAmid before now [] (text ++ []) (w ++ text)
+amid_text before now w text h = record {
   written = h.written;
   took = h.took;
-  is = ap (λ x. h.written ++ (pending ++ x)) (append-nil text)
-      ∙ sym (append_assoc h.written pending text)
-      ∙ ap (λ x. x ++ text) (ap (λ x. h.written ++ x) (sym (append-nil pending)) ∙ h.is);
+  is = ap (λ x. h.written ++ x) (append-nil text) ∙ ap (λ x. x ++ text) (sym (append-nil h.written) ∙ h.is);
 }
 
 -- no section yet
-pub none_sent : (r : Resolved) (raws : List RawSolution) (before now : Option (List ℕ)) (pending opening : List ℕ)
-    → IsAmid before now pending [] opening → AreSent r raws 0 0 before now pending opening
-none_sent r raws before now pending opening h = record {
+pub none_sent : (r : Resolved) (raws : List RawSolution) (shown : ℕ → Bool) (before now : Option (List ℕ))
+    (opening : List ℕ) → IsAmid before now [] [] opening → AreSent r raws shown 0 0 before now opening
+none_sent r raws shown before now opening h = record {
   sections = [];
   are = refl;
   counted = omega arith;
-  amid = subst (λ t. IsAmid before now pending [] t) (sym (append-nil opening)) h;
+  amid = subst (λ t. IsAmid before now [] [] t) (sym (append-nil opening)) h;
 }
 
 -- one section more
-pub one_sent : (r : Resolved) (raws : List RawSolution) (n sent more : ℕ) (before now after : Option (List ℕ))
-    (pending waiting opening section : List ℕ) (raw : RawSolution) → slice_get raws n ≡ Some raw
-    → IsSection (numbered_verdict r (n, raw)) section → more ≤ sent + length (encode_utf8_all section)
-    → (h : AreSent r raws n sent before now pending opening)
-    → IsAmid before after waiting [] ((opening ++ h.sections) ++ section)
-    → AreSent r raws (n + 1) more before after waiting opening
-one_sent r raws n sent more before now after pending waiting opening section raw found said bound h amid = record {
+pub one_sent : (r : Resolved) (raws : List RawSolution) (shown : ℕ → Bool) (n sent more : ℕ)
+    (before now after : Option (List ℕ)) (opening section : List ℕ) (raw : RawSolution) → slice_get raws n ≡ Some raw
+    → shown n ≡ true → IsSection (numbered_verdict r (n, raw)) section
+    → more ≤ sent + length (encode_utf8_all section) → (h : AreSent r raws shown n sent before now opening)
+    → IsAmid before after [] [] ((opening ++ h.sections) ++ section)
+    → AreSent r raws shown (n + 1) more before after opening
+one_sent r raws shown n sent more before now after opening section raw found asked said bound h amid = record {
   sections = h.sections ++ section;
-  are = subst (λ k. AreSections r raws k (h.sections ++ section)) (sym (add-one n)) (
+  are = subst (λ k. AreSections r raws shown k (h.sections ++ section)) (sym (add-one n)) (
     h.sections,
     h.are,
-    record { raw = raw; found = found; section = section; said = said; is = refl },
+    inl (asked, record { raw = raw; found = found; section = section; said = said; is = refl }),
   );
   counted = omega (
     arith,
@@ -87,14 +85,25 @@ one_sent r raws n sent more before now after pending waiting opening section raw
     ap length (encodes-append h.sections section),
     length-append (encode_utf8_all h.sections) (encode_utf8_all section),
   );
-  amid = subst (λ t. IsAmid before after waiting [] t) (append_assoc opening h.sections section) amid;
+  amid = subst (λ t. IsAmid before after [] [] t) (append_assoc opening h.sections section) amid;
 }
 
--- as many as are asked for and there
-pub all_sent : (r : Resolved) (raws : List RawSolution) (most n sent : ℕ) (before now : Option (List ℕ))
-    (pending opening : List ℕ) → n ≡ min (length raws) most → AreSent r raws n sent before now pending opening
-    → AreAllSent r raws most n before now pending opening
-all_sent r raws most n sent before now pending opening e h = record {
+-- one solution that is not asked for
+pub one_passed : (r : Resolved) (raws : List RawSolution) (shown : ℕ → Bool) (n sent : ℕ) (before now : Option (List ℕ))
+    (opening : List ℕ) → shown n ≡ false → AreSent r raws shown n sent before now opening
+    → AreSent r raws shown (n + 1) sent before now opening
+one_passed r raws shown n sent before now opening asked h = record {
+  sections = h.sections;
+  are = subst (λ k. AreSections r raws shown k h.sections) (sym (add-one n)) (h.sections, h.are, inr (asked, refl));
+  counted = h.counted;
+  amid = h.amid;
+}
+
+-- all that are asked for
+pub all_sent : (r : Resolved) (raws : List RawSolution) (shown : ℕ → Bool) (n sent : ℕ) (before now : Option (List ℕ))
+    (opening : List ℕ) → n ≡ length raws → AreSent r raws shown n sent before now opening
+    → AreAllSent r raws shown n before now opening
+all_sent r raws shown n sent before now opening e h = record {
   sections = h.sections;
   are = h.are;
   enough = inl e;
@@ -102,39 +111,33 @@ all_sent r raws most n sent before now pending opening e h = record {
 }
 
 -- no more, since the page is large
-pub cut_sent : (r : Resolved) (raws : List RawSolution) (most n sent : ℕ) (before now : Option (List ℕ))
-    (pending opening : List ℕ) → PAGE_BYTES < sent → AreSent r raws n sent before now pending opening
-    → AreAllSent r raws most n before now pending opening
-cut_sent r raws most n sent before now pending opening l h = record {
+pub cut_sent : (r : Resolved) (raws : List RawSolution) (shown : ℕ → Bool) (n sent : ℕ) (before now : Option (List ℕ))
+    (opening : List ℕ) → PAGE_BYTES < sent → AreSent r raws shown n sent before now opening
+    → AreAllSent r raws shown n before now opening
+cut_sent r raws shown n sent before now opening l h = record {
   sections = h.sections;
   are = h.are;
   enough = inr (omega (arith, l, h.counted));
   amid = h.amid;
 }
 
--- the last text was taken, and with it all
-pub whole_took : (before now after : Option (List ℕ)) (pending whole : List ℕ) → IsAmid before now pending [] whole
-    → Took now after (encode_utf8_all pending) → Took before after (encode_utf8_all whole)
-whole_took before now after pending whole h took =
-    amid-end before after whole (amid-flush before now after pending [] whole h took)
-
 -- the page is whole
-pub put_whole : (a : Archive) (r : Resolved) (raws : List RawSolution) (most n : ℕ) (before now after : Option (List ℕ))
-    (pending opening closing : List ℕ) → raws ≡ solutions_of a
-    → (s : AreAllSent r raws most n before now pending opening)
-    → Took before after (encode_utf8_all ((opening ++ s.sections) ++ closing)) → IsPut a r most before after
-put_whole a r raws most n before now after pending opening closing e s took = record {
-  shown = n;
+pub put_whole : (a : Archive) (r : Resolved) (raws : List RawSolution) (shown : ℕ → Bool) (n : ℕ)
+    (before now after : Option (List ℕ)) (opening closing : List ℕ) → raws ≡ solutions_of a
+    → (s : AreAllSent r raws shown n before now opening)
+    → IsAmid before after [] [] ((opening ++ s.sections) ++ closing) → IsPut a r shown before after
+put_whole a r raws shown n before now after opening closing e s amid = record {
+  looked = n;
   text = (opening ++ s.sections) ++ closing;
   page = record {
     opening = opening;
     sections = s.sections;
     closing = closing;
-    are = subst (λ x. AreSections r x n s.sections) e s.are;
+    are = subst (λ x. AreSections r x shown n s.sections) e s.are;
     is = append_assoc opening s.sections closing;
   };
-  enough = subst (λ x. AreEnough most (length x) n s.sections) e s.enough;
-  took = took;
+  enough = subst (λ x. AreEnough (length x) n s.sections) e s.enough;
+  took = amid-end before after ((opening ++ s.sections) ++ closing) amid;
 }
 
 -- what is so of the bytes under a name

@@ -1,5 +1,5 @@
 -- What the sink took of a page, by the status.
-use Rattle.std.specs.Prelude.{ℕ, ◌≡◌, ◌<◌, ◌≤◌, ◌⊎◌, Option, List, [], ◌++◌, length, min, encode_utf8_all}
+use Rattle.std.specs.Prelude.{ℕ, ◌≡◌, ◌<◌, ◌≤◌, ◌⊎◌, Option, List, [], ◌++◌, length, Bool, encode_utf8_all}
 use Rattle.std.specs.Prelude.{IfSome, IsSomeAnd}
 use Rattle.archive_reading.specs.Reading.{IsReadingOf, evaluable, refused}
 use Rattle.archive_reading.specs.declared.refusals.Refusal.{Refusal}
@@ -21,40 +21,40 @@ IsStatus n = (n ≡ 0) ⊎ (n ≡ 3) ⊎ (n ≡ 4) ⊎ (n ≡ 5) ⊎ (n ≡ 6)
 abbrev pub Stands : Option (List ℕ → Option (List ℕ)) → List ℕ → (List ℕ → Type 0) → Type 0
 Stands holdings name P = IfSome holdings (λ under. IsSomeAnd (under name) P)
 
--- as many solutions are shown as are asked for and there, or fewer where the page is too large for more
-abbrev pub AreEnough : ℕ → ℕ → ℕ → List ℕ → Type 0
-AreEnough most count n sections = (n ≡ min count most) ⊎ (PAGE_BYTES < length (encode_utf8_all sections))
+-- all solutions that are asked for and there are shown, or fewer where the page is too large for more
+abbrev pub AreEnough : ℕ → ℕ → List ℕ → Type 0
+AreEnough count n sections = (n ≡ count) ⊎ (PAGE_BYTES < length (encode_utf8_all sections))
 
--- the sections of the first solutions are on their way, after an opening
-pub record AreSent (r : Resolved) (raws : List RawSolution) (n sent : ℕ) (before now : Option (List ℕ))
-    (pending opening : List ℕ) : Type 0 where
+-- the sections of the first solutions were taken, after an opening
+pub record AreSent (r : Resolved) (raws : List RawSolution) (shown : ℕ → Bool) (n sent : ℕ)
+    (before now : Option (List ℕ)) (opening : List ℕ) : Type 0 where
   pub sections : List ℕ
-  pub are : AreSections r raws n sections
+  pub are : AreSections r raws shown n sections
   pub counted : sent ≤ length (encode_utf8_all sections)
-  pub amid : IsAmid before now pending [] (opening ++ sections)
+  pub amid : IsAmid before now [] [] (opening ++ sections)
 
 -- and they are enough
-pub record AreAllSent (r : Resolved) (raws : List RawSolution) (most n : ℕ) (before now : Option (List ℕ))
-    (pending opening : List ℕ) : Type 0 where
+pub record AreAllSent (r : Resolved) (raws : List RawSolution) (shown : ℕ → Bool) (n : ℕ)
+    (before now : Option (List ℕ)) (opening : List ℕ) : Type 0 where
   pub sections : List ℕ
-  pub are : AreSections r raws n sections
-  pub enough : AreEnough most (length raws) n sections
-  pub amid : IsAmid before now pending [] (opening ++ sections)
+  pub are : AreSections r raws shown n sections
+  pub enough : AreEnough (length raws) n sections
+  pub amid : IsAmid before now [] [] (opening ++ sections)
 
--- a sink took the whole page of an archive
-pub record IsPut (a : Archive) (r : Resolved) (most : ℕ) (before after : Option (List ℕ)) : Type 0 where
-  pub shown : ℕ
+-- a sink took the whole page of an archive, with a section of each solution that is asked for
+pub record IsPut (a : Archive) (r : Resolved) (shown : ℕ → Bool) (before after : Option (List ℕ)) : Type 0 where
+  pub looked : ℕ
   pub text : List ℕ
-  pub page : IsPage a r shown text
-  pub enough : AreEnough most (length (solutions_of a)) shown page.sections
+  pub page : IsPage a r shown looked text
+  pub enough : AreEnough (length (solutions_of a)) looked page.sections
   pub took : Took before after (encode_utf8_all text)
 
--- a sink took the whole page of the archive that these bytes spell
-pub record IsShown (most : ℕ) (before after : Option (List ℕ)) (bytes : List ℕ) : Type 0 where
+-- a sink took the whole page of an archive that these bytes spell
+pub record IsShown (shown : ℕ → Bool) (before after : Option (List ℕ)) (bytes : List ℕ) : Type 0 where
   pub archive : Archive
   pub resolved : Resolved
   pub read : IsReadingOf bytes (evaluable archive resolved)
-  pub put : IsPut archive resolved most before after
+  pub put : IsPut archive resolved shown before after
 
 -- a sink took the page that refuses these bytes
 pub record IsRefused (before after : Option (List ℕ)) (bytes : List ℕ) : Type 0 where

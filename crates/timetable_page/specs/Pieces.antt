@@ -24,9 +24,9 @@ abbrev pub invalid_text : ℕ → ℕ → List ℕ
 invalid_text cause entry =
     codes "invalid: " ++ (name_of_cause cause ++ (codes " at entry " ++ (decimal entry ++ [])))
 
--- what a section says of a solution that is invalid, and its end
+-- what a section says of a solution that is invalid
 abbrev pub cause_text : ℕ → ℕ → List ℕ
-cause_text cause entry = codes "<p class=\"bad\">" ++ (invalid_text cause entry ++ codes "</p></section>\n")
+cause_text cause entry = codes "<p class=\"bad\">" ++ (invalid_text cause entry ++ codes "</p>\n")
 
 -- what a section says of what comes of its solution
 abbrev pub verdict_text : Verdict → List ℕ

@@ -184,12 +184,68 @@ pub(crate) fn timetable_of(
 }
 
 /// The meets of a resource at each time, by their places.
-fn cells_of(alloc: Global, times: u32, runs: &[Run]) -> Result<Seq<Seq<u32>>, NoMemory> {
-    let mut cells = empty_lists(alloc, times as usize)?;
-    for run in runs {
-        add(&mut cells, run.time, run.meet)?;
+#[derive(Drop)]
+pub(crate) struct Cells {
+    /// Of each time, where its meets end in the list.
+    ends: Vec<usize>,
+    meets: Vec<u32>,
+}
+
+impl Cells {
+    /// How many times there are.
+    fn times(&self) -> usize {
+        self.ends.len()
     }
-    Ok(cells)
+
+    /// The places of the meets at a time. It takes constant time.
+    pub(crate) fn at(&self, time: u32) -> &[u32] {
+        let time = time as usize;
+        let end = self.ends.get(time).copied().unwrap_or(0);
+        let start = if time == 0 {
+            0
+        } else {
+            self.ends.get(time - 1).copied().unwrap_or(end)
+        };
+        if start > end || end > self.meets.len() {
+            return &[];
+        }
+        &self.meets.as_slice()[start..end]
+    }
+}
+
+/// How many times a resource is busy before each time: where the meets of that time begin.
+fn beginnings(alloc: Global, times: u32, runs: &[Run]) -> Result<Vec<usize>, NoMemory> {
+    let mut starts = vec![in alloc; 0usize; times as usize]?;
+    for run in runs {
+        let time = run.time as usize;
+        if time < starts.len() {
+            starts[time] = starts[time].saturating_add(1);
+        }
+    }
+    let mut before = 0usize;
+    for time in 0..starts.len() {
+        let here = starts[time];
+        starts[time] = before;
+        before = before.saturating_add(here);
+    }
+    Ok(starts)
+}
+
+/// The meets of a resource at each time.
+fn cells_of(alloc: Global, times: u32, runs: &[Run]) -> Result<Cells, NoMemory> {
+    let mut ends = beginnings(alloc, times, runs)?;
+    let mut meets = vec![in alloc; 0u32; runs.len()]?;
+    for run in runs {
+        let time = run.time as usize;
+        if time < ends.len() {
+            let place = ends[time];
+            if place < meets.len() {
+                meets[place] = run.meet;
+                ends[time] = place + 1;
+            }
+        }
+    }
+    Ok(Cells { ends, meets })
 }
 
 /// What the monitors of one kind say of a time of their resource.
@@ -237,7 +293,7 @@ fn mark_idle(
     alloc: Global,
     idle: &mut Vec<Said>,
     group: &IdSet,
-    cells: &Seq<Seq<u32>>,
+    cells: &Cells,
     defect: Option<u32>,
 ) -> Result<(), NoMemory> {
     let members = group.members(alloc)?;
@@ -246,8 +302,8 @@ fn mark_idle(
 }
 
 /// Marks those of some times that have no meets, between the first and the last that have.
-fn mark_between(idle: &mut Vec<Said>, times: &[u32], cells: &Seq<Seq<u32>>, defect: Option<u32>) {
-    let busy = |time: &&u32| !list_at(cells, **time).is_empty();
+fn mark_between(idle: &mut Vec<Said>, times: &[u32], cells: &Cells, defect: Option<u32>) {
+    let busy = |time: &&u32| !cells.at(**time).is_empty();
     let Some(first) = times.iter().find(busy) else {
         return;
     };
@@ -255,7 +311,7 @@ fn mark_between(idle: &mut Vec<Said>, times: &[u32], cells: &Seq<Seq<u32>>, defe
         return;
     };
     for time in times {
-        if first < time && time < last && list_at(cells, *time).is_empty() {
+        if first < time && time < last && cells.at(*time).is_empty() {
             say(idle, *time as usize, defect);
         }
     }
@@ -267,14 +323,14 @@ fn marks_of(
     inst: &Instance,
     monitors: &[u32],
     deviations: &[u64],
-    cells: &Seq<Seq<u32>>,
+    cells: &Cells,
 ) -> Result<Marks, NoMemory> {
     let nothing = Said {
         any: false,
         defect: None,
     };
-    let closed = vec![in alloc; nothing; cells.len()]?;
-    let idle = vec![in alloc; nothing; cells.len()]?;
+    let closed = vec![in alloc; nothing; cells.times()]?;
+    let idle = vec![in alloc; nothing; cells.times()]?;
     let mut marks = Marks {
         closed,
         idle,
@@ -291,7 +347,7 @@ fn mark(
     inst: &Instance,
     monitors: &[u32],
     deviations: &[u64],
-    cells: &Seq<Seq<u32>>,
+    cells: &Cells,
 ) -> Result<(), NoMemory> {
     for number in monitors {
         if *number < inst.monitors() {
@@ -318,7 +374,7 @@ fn mark_by(
     inst: &Instance,
     constraint: u32,
     defect: Option<u32>,
-    cells: &Seq<Seq<u32>>,
+    cells: &Cells,
 ) -> Result<(), NoMemory> {
     if constraint >= inst.constraints() {
         return Ok(());
@@ -344,7 +400,7 @@ pub(crate) fn marked_cells(
     runs: &[Run],
     monitors: &[u32],
     deviations: &[u64],
-) -> Result<(Marks, Seq<Seq<u32>>), NoMemory> {
+) -> Result<(Marks, Cells), NoMemory> {
     let cells = cells_of(alloc, inst.times(), runs)?;
     let marks = marks_of(alloc, inst, monitors, deviations, &cells);
     beside(marks, cells)

@@ -3,10 +3,11 @@
 ghost use Rattle.std.specs.Prelude.{IsTrue};
 ghost use Rattle.khe_base.specs.Text.{is_ascii};
 
-use crate::busy::{Marks, has_cells, list_at, marked_cells, said_of};
+use crate::about::{push_about, push_at_resource};
+use crate::busy::{Cells, Marks, has_cells, list_at, marked_cells, said_of};
 use crate::costs::Defect;
 use crate::draft::Draft;
-use crate::naming::{event_name, group_name, resource_name, time_name};
+use crate::naming::{group_name, time_name};
 use crate::view::View;
 use khe_base::{EventId, MonitorId, NoMemory, Seq, Text};
 use khe_instance::{Kind, Point, Rule};
@@ -18,16 +19,26 @@ const LISTED_MONITORS: usize = 1_000;
 /// How many cells of a monitor are listed at most.
 const LISTED_CELLS: u32 = 40;
 
+/// Adds a piece with a number, where there is one.
+fn push_label(page: &mut Draft, labels: &Seq<Text>, number: u32) {
+    if let Some(label) = labels.as_slice().get(number as usize) {
+        page.push_ready(label);
+    }
+}
+
 /// Adds a link to a resource's timetable, with its name.
 pub(crate) fn push_resource_link(page: &mut Draft, view: &View<'_>, resource: u32) {
-    page.push_place("<a href=\"#s", view.number, "r", resource, "\">");
-    page.push_named("", resource_name(view.raw, resource), "</a>");
+    push_label(page, &view.labels.resources, resource);
 }
 
 /// Adds a link to an event's row, with its name.
 pub(crate) fn push_event_link(page: &mut Draft, view: &View<'_>, event: u32) {
-    page.push_place("<a href=\"#s", view.number, "e", event, "\">");
-    page.push_named("", event_name(view.raw, event), "</a>");
+    push_label(page, &view.labels.events, event);
+}
+
+/// Adds the attribute of a cell that says the whole name of its time.
+pub(crate) fn push_title(page: &mut Draft, view: &View<'_>, time: u32) {
+    push_label(page, &view.labels.times, time);
 }
 
 /// The role of a place of an event, where it has one.
@@ -99,8 +110,8 @@ fn phrase(kind: Kind) -> &'static str
 
 /// Adds a link to a cell of a resource's timetable, with what happens there.
 fn push_cell_link(page: &mut Draft, view: &View<'_>, resource: u32, time: u32, busy: usize) {
-    page.push_place(" <a href=\"#s", view.number, "r", resource, "");
-    page.push_counted("t", u128::from(time), "\">");
+    page.push_place(" <a href=#s", view.number, "r", resource, "t");
+    page.push_counted("", u128::from(time), ">");
     page.push_named("", time_name(view.raw, time), "</a>");
     if busy == 2 {
         page.push_literal(" (twice)");
@@ -119,19 +130,29 @@ fn is_cell(kind: Kind, busy: usize, closed: bool, idle: bool) -> bool {
     }
 }
 
-/// Adds links to the cells of a resource that the monitor with a number is about: the times of its own constraint, and
-/// not those of other monitors of the resource.
-fn push_cells(
+/// Adds what a monitor at a resource is about: links to the cells of its own constraint's times, and not of those of
+/// other monitors of the resource; its time groups; or what is wanted.
+fn push_where(
     alloc: Global,
     page: &mut Draft,
     view: &View<'_>,
     number: u32,
-    kind: Kind,
+    rule: &Rule,
     resource: u32,
 ) {
+    if number >= view.inst.monitors() {
+        return;
+    }
     let runs = list_at(&view.table.runs, resource);
+    let monitor = view.inst.monitor(MonitorId(number));
     match marked_cells(alloc, view.inst, runs, &[number], &[]) {
-        Ok((marks, cells)) => push_cell_links(page, view, kind, resource, &cells, &marks),
+        Ok((marks, cells)) => {
+            if has_cells(monitor.kind) {
+                page.push_literal(", at");
+                push_cell_links(page, view, monitor.kind, resource, &cells, &marks);
+            }
+            push_at_resource(page, view, monitor.constraint, rule, &cells);
+        }
         Err(NoMemory) => page.refuse(),
     }
 }
@@ -142,12 +163,12 @@ fn push_cell_links(
     view: &View<'_>,
     kind: Kind,
     resource: u32,
-    cells: &Seq<Seq<u32>>,
+    cells: &Cells,
     marks: &Marks,
 ) {
     let mut listed = 0u32;
     for time in 0..view.inst.times() {
-        let busy = list_at(cells, time).len();
+        let busy = cells.at(time).len();
         let closed = said_of(marks.closed.as_slice(), time).any;
         let idle = said_of(marks.idle.as_slice(), time).any;
         if is_cell(kind, busy, closed, idle) {
@@ -167,17 +188,17 @@ fn push_defect(alloc: Global, page: &mut Draft, view: &View<'_>, rule: &Rule, de
         return;
     }
     let monitor = view.inst.monitor(MonitorId(defect.number));
-    page.push_place("<li id=\"s", view.number, "m", defect.number, "\">");
+    page.push_place("<li id=s", view.number, "m", defect.number, ">");
     page.push_counted("<b>", defect.cost, "</b> ");
     push_subject(page, view, rule, monitor.point);
     page.push_counted(phrase(monitor.kind), u128::from(defect.deviation), "");
-    if has_cells(monitor.kind) {
-        if let Point::Resource(resource) = monitor.point {
-            page.push_literal(", at");
-            push_cells(alloc, page, view, defect.number, monitor.kind, resource.0);
+    match monitor.point {
+        Point::Resource(resource) => {
+            push_where(alloc, page, view, defect.number, rule, resource.0);
         }
+        point => push_about(page, view, monitor.constraint, rule, point),
     }
-    page.push_literal("</li>\n");
+    page.push_literal("\n");
 }
 
 /// Adds the row of a constraint's monitors that deviate.
@@ -188,7 +209,7 @@ pub(crate) fn push_defects(
     rule: &Rule,
     defects: &[Defect],
 ) {
-    page.push_literal("<tr class=\"why\"><td colspan=\"6\"><details><summary>");
+    page.push_literal("<tr class=why><td colspan=6><details><summary>");
     page.push_counted(
         "Monitors that deviate: ",
         defects.len() as u128,
@@ -201,8 +222,8 @@ pub(crate) fn push_defects(
         page.push_counted(
             "<li>Only the ",
             LISTED_MONITORS as u128,
-            " dearest are listed.</li>",
+            " dearest are listed.",
         );
     }
-    page.push_literal("</ul></details></td></tr>\n");
+    page.push_literal("</ul></details>\n");
 }

@@ -48,6 +48,13 @@ impl Draft {
         }
     }
 
+    /// Adds a piece that another draft has made.
+    pub(crate) fn push_ready(&mut self, piece: &Text) {
+        if self.kept.is_ok() {
+            self.kept = self.text.push_text(piece);
+        }
+    }
+
     /// Adds words of this program, as they are.
     pub(crate) fn push_str(&mut self, words: &str) {
         if self.kept.is_ok() {

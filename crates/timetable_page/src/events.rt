@@ -47,16 +47,16 @@ fn push_part(page: &mut Draft, view: &View<'_>, number: u32) {
 
 /// Adds the row of an event.
 fn push_event(page: &mut Draft, view: &View<'_>, event: u32) {
-    page.push_place("<tr id=\"s", view.number, "e", event, "\">");
+    page.push_place("<tr id=s", view.number, "e", event, ">");
     page.push_named(
-        "<th scope=\"row\" class=\"n\">",
+        "<th scope=row class=n>",
         event_name(view.raw, event),
-        "</th><td>",
+        "<td>",
     );
     for number in list_at(&view.table.parts, event) {
         push_part(page, view, *number);
     }
-    page.push_literal("</td></tr>\n");
+    page.push_literal("\n");
 }
 
 /// Whether a part of an event has no time.
@@ -108,15 +108,18 @@ fn push_lacking(page: &mut Draft, view: &View<'_>, times: bool) {
 
 /// Adds the events of a solution.
 pub(crate) fn push_events(page: &mut Draft, view: &View<'_>) {
-    page.push_literal("<details><summary>Events</summary>\n");
+    page.push_counted(
+        "<details id=s",
+        u128::from(view.number),
+        "v><summary>Events</summary>\n",
+    );
     push_lacking(page, view, true);
     push_lacking(page, view, false);
-    page.push_literal(
-        "<div class=\"wide\"><table class=\"events\"><thead><tr><th scope=\"col\">Event</th>",
-    );
-    page.push_literal("<th scope=\"col\">When and with whom</th></tr></thead><tbody>\n");
+    page.push_literal("<div class=wide tabindex=0 role=region aria-label=Events>");
+    page.push_literal("<table class=events><thead><tr><th scope=col>Event");
+    page.push_literal("<th scope=col>When and with whom<tbody>\n");
     for event in 0..view.inst.events() {
         push_event(page, view, event);
     }
-    page.push_literal("</tbody></table></div></details>\n");
+    page.push_literal("</table></div></details>\n");
 }

@@ -3,8 +3,9 @@
 use crate::busy::list_at;
 use crate::costs::{Defect, cost_of, deviation_of};
 use crate::draft::Draft;
-use khe_base::{MonitorId, Seq};
+use khe_base::{MonitorId, NoMemory, Seq};
 use khe_instance::{Instance, Kind, Rule};
+use std::alloc::Global;
 
 /// The kinds of constraints, in the order in which the format describes them.
 const KINDS: &[Kind] = &[
@@ -82,19 +83,62 @@ pub(crate) fn kind_name(kind: Kind) -> &'static str {
     }
 }
 
-/// How many monitors of a kind there are.
-fn monitors_of(inst: &Instance, kind: Kind) -> u128 {
-    let mut monitors = 0u128;
-    for number in 0..inst.monitors() {
-        if inst.monitor(MonitorId(number)).kind == kind {
-            monitors = monitors.saturating_add(1);
-        }
-    }
-    monitors
+/// The place of a kind in the table.
+fn place_of(kind: Kind) -> usize {
+    KINDS.iter().position(|other| *other == kind).unwrap_or(0)
 }
 
-/// Adds the monitors of a constraint that deviate.
-fn add_defects(sums: &mut KindSums, required: bool, defects: &[Defect]) {
+/// What the monitors of each constraint of an instance come to, by kinds.
+fn sums_by_kind(
+    alloc: Global,
+    inst: &Instance,
+    defects: &Seq<Seq<Defect>>,
+) -> Result<Vec<KindSums>, NoMemory> {
+    let nothing = KindSums {
+        monitors: 0,
+        deviating: 0,
+        deviation: 0,
+        hard: 0,
+        soft: 0,
+    };
+    let mut sums = vec![in alloc; nothing; KINDS.len()]?;
+    let places = constraint_places(alloc, inst)?;
+    for number in 0..inst.monitors() {
+        let constraint = inst.monitor(MonitorId(number)).constraint;
+        count(&mut sums, places.as_slice(), constraint);
+    }
+    for which in 0..inst.constraints() {
+        let place = places.get(which as usize).copied().unwrap_or(0);
+        if place < sums.len() {
+            let required = inst.constraint(which).required;
+            sums[place] = with_defects(sums[place], required, list_at(defects, which));
+        }
+    }
+    Ok(sums)
+}
+
+/// Counts a monitor of a constraint.
+fn count(sums: &mut Vec<KindSums>, places: &[usize], constraint: u32) {
+    let place = places.get(constraint as usize).copied().unwrap_or(0);
+    if place < sums.len() {
+        let mut one = sums[place];
+        one.monitors = one.monitors.saturating_add(1);
+        sums[place] = one;
+    }
+}
+
+/// The place of the kind of each constraint.
+fn constraint_places(alloc: Global, inst: &Instance) -> Result<Vec<usize>, NoMemory> {
+    let mut places = Vec::new(alloc);
+    for which in 0..inst.constraints() {
+        places.push(place_of(kind_of(&inst.constraint(which).rule)))?;
+    }
+    Ok(places)
+}
+
+/// What a kind comes to with the monitors of a constraint that deviate.
+fn with_defects(sums: KindSums, required: bool, defects: &[Defect]) -> KindSums {
+    let mut sums = sums;
     sums.deviating = sums.deviating.saturating_add(defects.len() as u128);
     sums.deviation = sums.deviation.saturating_add(deviation_of(defects));
     let cost = cost_of(defects);
@@ -103,58 +147,55 @@ fn add_defects(sums: &mut KindSums, required: bool, defects: &[Defect]) {
     } else {
         sums.soft = sums.soft.saturating_add(cost);
     }
-}
-
-/// What the monitors of a kind come to, by those of each constraint that deviate.
-fn sums_of(inst: &Instance, kind: Kind, defects: &Seq<Seq<Defect>>) -> KindSums {
-    let mut sums = KindSums {
-        monitors: monitors_of(inst, kind),
-        deviating: 0,
-        deviation: 0,
-        hard: 0,
-        soft: 0,
-    };
-    for which in 0..inst.constraints() {
-        let constraint = inst.constraint(which);
-        if kind_of(&constraint.rule) == kind {
-            add_defects(&mut sums, constraint.required, list_at(defects, which));
-        }
-    }
     sums
 }
 
 /// Adds a number to a row.
 fn push_cell(page: &mut Draft, number: u128) {
-    page.push_counted("<td class=\"num\">", number, "</td>");
+    page.push_counted("<td class=num>", number, "");
 }
 
 /// Adds the row of a kind.
 fn push_kind(page: &mut Draft, kind: Kind, sums: KindSums) {
     if sums.deviating == 0 {
-        page.push_literal("<tr class=\"fine\"><th scope=\"row\">");
+        page.push_literal("<tr class=fine><th scope=row>");
     } else {
-        page.push_literal("<tr><th scope=\"row\">");
+        page.push_literal("<tr><th scope=row>");
     }
     page.push_str(kind_name(kind));
-    page.push_literal("</th>");
     push_cell(page, sums.monitors);
     push_cell(page, sums.deviating);
     push_cell(page, sums.deviation);
     push_cell(page, sums.hard);
     push_cell(page, sums.soft);
-    page.push_literal("</tr>\n");
+    page.push_literal("\n");
 }
 
-/// Adds the table of what a solution costs by kind of constraints. It takes time in proportion to the kinds times the
-/// monitors and the constraints.
-pub(crate) fn push_kinds(page: &mut Draft, inst: &Instance, defects: &Seq<Seq<Defect>>) {
-    page.push_literal("<details open><summary>Costs by kind</summary><div class=\"wide\">");
-    page.push_literal("<table class=\"costs\"><thead><tr><th scope=\"col\">Kind</th>");
-    page.push_literal("<th scope=\"col\">Monitors</th><th scope=\"col\">Deviate</th>");
-    page.push_literal("<th scope=\"col\">Sum of deviations</th><th scope=\"col\">Hard cost</th>");
-    page.push_literal("<th scope=\"col\">Soft cost</th></tr></thead><tbody>\n");
-    for kind in KINDS {
-        push_kind(page, *kind, sums_of(inst, *kind, defects));
+/// Adds the table of what a solution costs by kind of constraints. It takes time in proportion to the monitors and the
+/// constraints.
+pub(crate) fn push_kinds(
+    alloc: Global,
+    page: &mut Draft,
+    solution: u32,
+    inst: &Instance,
+    defects: &Seq<Seq<Defect>>,
+) {
+    page.push_counted(
+        "<details open id=s",
+        u128::from(solution),
+        "k><summary>Costs by kind</summary>",
+    );
+    page.push_literal("<div class=wide tabindex=0 role=region aria-label=\"Costs by kind\">");
+    page.push_literal("<table class=costs><thead><tr><th scope=col>Kind<th scope=col>Monitors");
+    page.push_literal("<th scope=col>Deviate<th scope=col>Sum of deviations");
+    page.push_literal("<th scope=col>Hard cost<th scope=col>Soft cost<tbody>\n");
+    match sums_by_kind(alloc, inst, defects) {
+        Ok(sums) => {
+            for (kind, sums) in KINDS.iter().zip(sums.iter()) {
+                push_kind(page, *kind, *sums);
+            }
+        }
+        Err(NoMemory) => page.refuse(),
     }
-    page.push_literal("</tbody></table></div></details>\n");
+    page.push_literal("</table></div></details>\n");
 }

@@ -5,7 +5,7 @@
 use crate::busy::{add, empty_lists};
 use crate::naming::shown;
 use crate::rows::{Row, rows_of};
-use khe_base::{NoMemory, Seq, Text, beside, both};
+use khe_base::{NoMemory, Seq, Text, both};
 use std::alloc::Global;
 use xhstt_references::{Names, Seed};
 use xhstt_shape::{RawInstance, Ref, Time, TimeSort};
@@ -61,7 +61,7 @@ fn reference_of(time: &Time, sort: TimeSort) -> &Option<Ref> {
 }
 
 /// The Ids of all time groups, in order.
-fn group_names(alloc: Global, raw: &RawInstance) -> Result<Names, NoMemory> {
+pub(crate) fn group_names(alloc: Global, raw: &RawInstance) -> Result<Names, NoMemory> {
     let mut seed = Seed::new();
     for group in raw.time_groups.as_slice() {
         seed.add(group.id.text.spelling());
@@ -238,13 +238,14 @@ fn sheets_of(alloc: Global, raw: &RawInstance, names: &Names) -> Result<Seq<Shee
     added.and(Ok(sheets))
 }
 
-/// The layout of an instance's times. It takes time and memory in proportion to the times, the time groups, and the
-/// rows of the grids times their columns.
-pub(crate) fn layout_of(alloc: Global, raw: &RawInstance) -> Result<Layout, NoMemory> {
-    let names = group_names(alloc, raw)?;
-    let sheets = sheets_of(alloc, raw, &names);
-    let (sheets, names) = beside(sheets, names)?;
-    drop(names);
+/// The layout of an instance's times, of which the Ids of the time groups are given. It takes time and memory in
+/// proportion to the times, the time groups, and the rows of the grids times their columns.
+pub(crate) fn layout_of(
+    alloc: Global,
+    raw: &RawInstance,
+    names: &Names,
+) -> Result<Layout, NoMemory> {
+    let sheets = sheets_of(alloc, raw, names)?;
     Ok(Layout {
         sheets,
         weekly: is_weekly(raw),

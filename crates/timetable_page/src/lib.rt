@@ -2,6 +2,7 @@
 //! stands alone. The call `page` reads the archive and hands the page to a sink, solution by solution.
 #![tactic(auto)]
 
+mod about;
 mod busy;
 mod costs;
 mod defects;
@@ -10,6 +11,7 @@ mod escaping;
 mod events;
 mod grids;
 mod kinds;
+mod labels;
 #[allow(dead_code)]
 mod laws;
 mod layout;

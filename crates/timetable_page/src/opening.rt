@@ -6,9 +6,13 @@ ghost use Rattle.khe_base.specs.Text.{is_ascii};
 use crate::draft::Draft;
 use crate::naming::whole_name;
 use crate::style::{SCRIPT, STYLE};
+use crate::words::Choice;
 use khe_base::{NoMemory, Text};
 use std::alloc::Global;
 use xhstt_shape::{Archive, MetaData};
+
+/// To how many sections the links that stay in sight lead at most.
+const NAMED: usize = 200;
 
 /// Adds a line on the archive, where it has one.
 fn push_said(page: &mut Draft, before: &str, text: &Option<Text>)
@@ -52,7 +56,7 @@ fn push_heading(page: &mut Draft, unnamed: &Text, archive: &Archive) {
         "<meta name=\"viewport\" content=\"width=device-width,initial-scale=1\">\n<style>\n",
     );
     page.push_str(STYLE);
-    page.push_named("</style></head><body><header><h1>", name, "</h1>\n");
+    page.push_named("</style></head><body><header id=top><h1>", name, "</h1>\n");
 }
 
 /// Adds how much the archive has, and what it says of itself.
@@ -74,33 +78,57 @@ fn push_search(page: &mut Draft) {
     page.push_literal(
         "<noscript><p>Searching and sorting need scripts; all else works without.</p></noscript>\n",
     );
-    page.push_literal("</header><main>\n");
+    page.push_literal("</header>\n");
 }
 
-/// Adds the beginning of the page: what archive it is, and how much it has.
-pub(crate) fn push_opening(alloc: Global, page: &mut Draft, archive: &Archive, solutions: usize) {
-    match Text::from_str(alloc, "Timetables") {
-        Ok(unnamed) => push_heading(page, &unnamed, archive),
-        Err(NoMemory) => page.refuse(),
+/// Adds the links that stay in sight: to the top, the summary, and the section of each solution that has one.
+fn push_nav(page: &mut Draft, choice: &Choice<'_>, solutions: usize) {
+    page.push_literal(
+        "<nav class=top aria-label=Page><a href=#top>Top</a> <a href=#summary>Summary</a>",
+    );
+    let mut named = 0usize;
+    for number in 0..u32::try_from(solutions).unwrap_or(u32::MAX) {
+        if named < NAMED && choice.shows(number) {
+            page.push_counted(" <a href=#s", u128::from(number), ">Solution ");
+            page.push_counted("", u128::from(number), "</a>");
+            named = named.saturating_add(1);
+        }
     }
-    push_contents(page, archive, solutions);
-    push_search(page);
+    page.push_literal("</nav><main>\n");
 }
 
-/// Adds that the timetables of the solutions from one on are not shown.
-fn push_not_shown(page: &mut Draft, shown: u32, solutions: u32) {
+/// The beginning of the page: what archive it is, and how much it has. It is there before the solutions are judged.
+pub(crate) fn opening(
+    alloc: Global,
+    choice: &Choice<'_>,
+    archive: &Archive,
+    solutions: usize,
+) -> Result<Text, NoMemory> {
+    let unnamed = Text::from_str(alloc, "Timetables")?;
+    let mut page = Draft::new(alloc);
+    push_heading(&mut page, &unnamed, archive);
+    push_contents(&mut page, archive, solutions);
+    push_search(&mut page);
+    push_nav(&mut page, choice, solutions);
+    page.into_text()
+}
+
+/// Adds that the timetables of the solutions from one on are not shown, of those that are to be.
+fn push_not_shown(page: &mut Draft, choice: &Choice<'_>, shown: u32, solutions: u32) {
     if shown >= solutions {
         return;
     }
     page.push_counted(
-        "<section><h2>Not shown</h2><p id=\"rest\">The timetables of solutions from ",
+        "<section><h2>Not shown</h2><p id=rest>The timetables of solutions from ",
         u128::from(shown),
         " on ",
     );
     page.push_literal("are not shown, so that the page does not grow too large.</p>\n");
     for number in shown..solutions {
-        page.push_counted("<p id=\"s", u128::from(number), "\">Solution ");
-        page.push_counted("", u128::from(number), " is not shown.</p>\n");
+        if choice.shows(number) {
+            page.push_counted("<p id=s", u128::from(number), ">Solution ");
+            page.push_counted("", u128::from(number), " is not shown.</p>\n");
+        }
     }
     page.push_literal("</section>\n");
 }
@@ -113,10 +141,15 @@ fn push_end(page: &mut Draft) {
 }
 
 /// The end of the page, where timetables from one solution on are not shown.
-pub(crate) fn closing(alloc: Global, shown: u32, solutions: usize) -> Result<Text, NoMemory> {
+pub(crate) fn closing(
+    alloc: Global,
+    choice: &Choice<'_>,
+    shown: u32,
+    solutions: usize,
+) -> Result<Text, NoMemory> {
     let solutions = u32::try_from(solutions).unwrap_or(u32::MAX);
     let mut page = Draft::new(alloc);
-    push_not_shown(&mut page, shown, solutions);
+    push_not_shown(&mut page, choice, shown, solutions);
     push_end(&mut page);
     page.into_text()
 }

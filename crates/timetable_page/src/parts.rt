@@ -1,5 +1,6 @@
 //! What the sections of a page are made from.
 
+use crate::words::Choice;
 use khe_base::Text;
 use resource_deviations::ResourceRoom;
 use xhstt_resolve::Resolved;
@@ -16,6 +17,8 @@ pub(crate) struct Parts<'a> {
     pub groups: &'a [u32],
     /// The solutions, over all groups.
     pub raws: &'a [&'a RawSolution],
+    /// Which solutions have timetables.
+    pub choice: Choice<'a>,
 }
 
 /// A solution as the archive spells it, with its number, its instance, and what its group is called.

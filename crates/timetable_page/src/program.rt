@@ -1,6 +1,6 @@
 //! The whole program as one call.
 
-ghost use Rattle.std.specs.Prelude.{◌≡◌, ◌≤◌, ◌<◌, ◌+◌, ◌^◌, ◌⊎◌, ℕ, List, [], Option, None, Some, IfOk, IfSome, IsErrOf, IsSome, IsTrue, OnOk, ◌↔◌, encode_utf8_all, length, map, min, slice_get, string_bytes};
+ghost use Rattle.std.specs.Prelude.{◌≡◌, ◌≤◌, ◌<◌, ◌+◌, ◌^◌, ◌⊎◌, ℕ, List, [], Option, None, Some, IfOk, IfSome, IsErrOf, IsSome, IsTrue, OnOk, ◌↔◌, encode_utf8_all, length, map, slice_get, string_bytes};
 ghost use Rattle.archive_reading.specs.Ready.{IsReady};
 ghost use Rattle.khe_base.specs.declared.limits.TheConstants.{ARCHIVE_BYTES};
 ghost use Rattle.khe_io.specs.Amid.{IsAmid};
@@ -13,26 +13,27 @@ ghost use Rattle.timetable_page.specs.Endings.{AreAllSent, AreSent, IsPut, IsRef
 ghost use Rattle.timetable_page.specs.Pages.{IsSection};
 ghost use Rattle.timetable_page.specs.Parts.{AreParts};
 ghost use Rattle.timetable_page.specs.Refusals as refusals;
-ghost use Rattle.timetable_page.specs.Words.{asked};
+ghost use Rattle.timetable_page.specs.Words.{asked, shows};
 ghost use Rattle.xhstt_completion.specs.Completed as completion;
 
 use crate::draft::Draft;
-use crate::opening::{closing, push_opening};
+use crate::opening::{closing, opening};
 use crate::outcomes::outcomes;
 use crate::parts::{Parts, Spelled};
 use crate::refusing::refusal_page;
 use crate::sections::{invalid_section, valid_section};
-use crate::sending::pass_on;
+use crate::sending::send;
 use crate::summary::{Results, group_numbers, group_title, push_summary};
-use crate::words::request_of;
+use crate::words::{Choice, Request, request_of};
 use archive_reading::{ReadArchive, Refusal, Unread, read};
 use khe_base::{NoMemory, Seq, Text, limits};
 use khe_instance::Instance;
-use khe_io::{Cut, Shelf, Sink, TakeFault, flush, put_all, take_all};
-use parallel_solve::{all_solutions, rooms_of};
+use khe_io::{Cut, Shelf, Sink, TakeFault, put_all, take_all};
+use parallel_solve::{Solutions, all_solutions, rooms_of};
 use plain_eval::evaluate_in;
 use resource_deviations::ResourceRoom;
 use std::alloc::Global;
+use std::thread::Threads;
 use xhstt_completion::{SolutionFault, numbered_solution};
 use xhstt_resolve::Resolved;
 use xhstt_shape::{Archive, RawSolution};
@@ -54,18 +55,22 @@ pub const PAGE_BYTES: u64 = 50_000_000;
 pub struct Status(pub u8);
 
 /// Reads the archive that the words name from the shelf, and writes its page to the sink; or a page with the line that
-/// refuses it. The words are the archive's name, and `--solutions` with the number of the solutions whose timetables
-/// are shown at most, or nothing more.
+/// refuses it. The words are the archive's name, and options with their values in any order: `--solutions N` for the
+/// timetables of the first N solutions in place of the first eight, or `--solution K`, as often as is wanted, for those
+/// of the one with the number K; and `--workers N` for the number of workers that judge the solutions.
 ///
 /// The page has a summary of all solutions, and of each one that is shown a section: its totals, its costs by
 /// constraint with the monitors that deviate, a timetable of each resource, and its events. The totals are those that
-/// `khe evaluate` reports. Solutions are shown until as many are as are asked for, or until their sections have more
-/// than 50 MB, and then the page says so.
+/// `khe evaluate` reports. Solutions are shown until sections have more than 50 MB, and then the page says so. The
+/// page is the same for every number of workers.
 ///
 /// With other words nothing is read or written. Before a status of 4 nothing was written, and before a status of 5 or
-/// 6 a first part of the page. It takes about the time of evaluating all solutions twice and of writing the page, and
-/// memory for the archive with its instances, the totals of all solutions, and the section of one.
-pub fn page<S: Shelf, K: Sink>(
+/// 6 a first part of the page. The head of the page is written before solutions are judged, and each section once it is
+/// made. It takes about the time of evaluating all solutions, divided among the workers, and those that are shown once
+/// more, and of writing the page; and memory for the archive with its instances, the totals of all solutions, and the
+/// section of one.
+pub fn page<R: Threads + Sync, S: Shelf, K: Sink>(
+    rt: &R,
     alloc: Global,
     words: &[String],
     shelf: &mut S,
@@ -93,32 +98,32 @@ pub fn page<S: Shelf, K: Sink>(
     ensures holdings { S.holdings shelf.new ≡ S.holdings shelf.old }
 {
     match request_of(words) {
-        Some(request) => respond(alloc, shelf, out, request.archive, request.solutions),
+        Some(request) => respond(rt, alloc, shelf, out, &request),
         None => Status(2),
     }
 }
 
 /// Writes the page of the archive under a name.
-fn respond<S: Shelf, K: Sink>(
+fn respond<R: Threads + Sync, S: Shelf, K: Sink>(
+    rt: &R,
     alloc: Global,
     shelf: &mut S,
     out: &mut K,
-    name: &str,
-    most: u32,
+    request: &Request<'_>,
 ) -> Status
     ensures status { IsStatus result.0 }
-    ensures shown { result.0 ≡ 0 → Stands (S.holdings shelf.old) name.now (IsShown most (K.taken out.old) (K.taken out.new)) }
-    ensures refused { result.0 ≡ 3 → Stands (S.holdings shelf.old) name.now (IsRefused (K.taken out.old) (K.taken out.new)) }
+    ensures shown { result.0 ≡ 0 → Stands (S.holdings shelf.old) request.now.archive.now (IsShown (shows request.now.choice) (K.taken out.old) (K.taken out.new)) }
+    ensures refused { result.0 ≡ 3 → Stands (S.holdings shelf.old) request.now.archive.now (IsRefused (K.taken out.old) (K.taken out.new)) }
     ensures read_fault { result.0 ≡ 4 → Rose (S.faults shelf.old) (S.faults shelf.new) }
     ensures read_fault_ends { (result.0 ≡ 4) ⊎ (S.faults shelf.new ≡ S.faults shelf.old) }
     ensures nothing_written { result.0 ≡ 4 → K.taken out.new ≡ K.taken out.old }
-    ensures missing { IsTrue (S.is_sound shelf.old) → (result.0 ≡ 4) ↔ IsMissing (S.holdings shelf.old) name.now }
+    ensures missing { IsTrue (S.is_sound shelf.old) → (result.0 ≡ 4) ↔ IsMissing (S.holdings shelf.old) request.now.archive.now }
     ensures write_fault { result.0 ≡ 5 → Rose (K.faults out.old) (K.faults out.new) }
     ensures write_fault_ends { (result.0 ≡ 5) ⊎ (K.faults out.new ≡ K.faults out.old) }
     ensures holdings { S.holdings shelf.new ≡ S.holdings shelf.old }
 {
-    match take_all(alloc, shelf, name, limits::ARCHIVE_BYTES) {
-        Ok(bytes) => show(alloc, out, bytes, most),
+    match take_all(alloc, shelf, request.archive, limits::ARCHIVE_BYTES) {
+        Ok(bytes) => show(rt, alloc, out, bytes, &request.choice),
         Err(TakeFault::TooLarge) => refuse(alloc, out, Refusal::TooLarge),
         Err(TakeFault::ReadFault) => Status(4),
         Err(TakeFault::NoMemory) => Status(6),
@@ -126,16 +131,22 @@ fn respond<S: Shelf, K: Sink>(
 }
 
 /// Writes the page of the archive that these bytes spell.
-fn show<K: Sink>(alloc: Global, out: &mut K, bytes: Seq<u8>, most: u32) -> Status
+fn show<R: Threads + Sync, K: Sink>(
+    rt: &R,
+    alloc: Global,
+    out: &mut K,
+    bytes: Seq<u8>,
+    choice: &Choice<'_>,
+) -> Status
     requires { length bytes ≤ ARCHIVE_BYTES }
     ensures status { (result.0 ≡ 0) ⊎ (result.0 ≡ 3) ⊎ (result.0 ≡ 5) ⊎ (result.0 ≡ 6) }
-    ensures shown { result.0 ≡ 0 → IsShown most (K.taken out.old) (K.taken out.new) bytes }
+    ensures shown { result.0 ≡ 0 → IsShown (shows choice.now) (K.taken out.old) (K.taken out.new) bytes }
     ensures refused { result.0 ≡ 3 → IsRefused (K.taken out.old) (K.taken out.new) bytes }
     ensures write_fault { result.0 ≡ 5 → Rose (K.faults out.old) (K.faults out.new) }
     ensures write_fault_ends { (result.0 ≡ 5) ⊎ (K.faults out.new ≡ K.faults out.old) }
 {
     match read(alloc, bytes) {
-        Ok(read) => put(alloc, out, &read, most),
+        Ok(read) => put(rt, alloc, out, &read, choice),
         Err(Unread::Refused(refusal)) => refuse(alloc, out, refusal),
         Err(Unread::NoMemory) => Status(6),
     }
@@ -168,14 +179,20 @@ fn put_refusal<K: Sink>(out: &mut K, text: &Text) -> Status
 }
 
 /// Writes the page of an archive, and answers the status.
-fn put<K: Sink>(alloc: Global, out: &mut K, read: &ReadArchive, most: u32) -> Status
+fn put<R: Threads + Sync, K: Sink>(
+    rt: &R,
+    alloc: Global,
+    out: &mut K,
+    read: &ReadArchive,
+    choice: &Choice<'_>,
+) -> Status
     requires { IsReady read.now.archive read.now.resolved }
     ensures status { (result.0 ≡ 0) ⊎ (result.0 ≡ 5) ⊎ (result.0 ≡ 6) }
-    ensures put { result.0 ≡ 0 → IsPut read.now.archive read.now.resolved most (K.taken out.old) (K.taken out.new) }
+    ensures put { result.0 ≡ 0 → IsPut read.now.archive read.now.resolved (shows choice.now) (K.taken out.old) (K.taken out.new) }
     ensures write_fault { result.0 ≡ 5 → Rose (K.faults out.old) (K.faults out.new) }
     ensures write_fault_ends { (result.0 ≡ 5) ⊎ (K.faults out.new ≡ K.faults out.old) }
 {
-    match write(alloc, out, &read.archive, &read.resolved, most) {
+    match write(rt, alloc, out, &read.archive, &read.resolved, choice) {
         Ok(()) => Status(0),
         Err(Cut::WriteFault) => Status(5),
         Err(Cut::NoMemory) => Status(6),
@@ -252,12 +269,11 @@ fn group_of<'a>(archive: &'a Archive, groups: &[u32], number: u32, other: &'a Te
     }
 }
 
-/// Writes the section of the solution with a number, after a number of bytes of sections, and answers
-/// how many were sent then.
+/// Writes the section of the solution with a number, after a number of bytes of sections, and answers how many were
+/// sent then.
 fn write_section<K: Sink>(
     alloc: Global,
     out: &mut K,
-    pending: &mut Text,
     parts: &Parts<'_>,
     number: u32,
     solution: &RawSolution,
@@ -266,117 +282,149 @@ fn write_section<K: Sink>(
     requires one { IsOne parts.now.resolved.now number solution.now }
     requires rooms { parts.now.rooms.now ≡ map room_for parts.now.resolved.now.instances }
     requires same { length parts.now.archive.now.instances ≡ length parts.now.resolved.now.instances }
-    ensures sent { (before : Option (List ℕ)) (opening : List ℕ) (raws : List RawSolution) → slice_get raws number ≡ Some solution.now → AreSent parts.now.resolved.now raws number sent before (K.taken out.old) pending.old opening → IfOk result (λ more. AreSent parts.now.resolved.now raws (number + 1) more before (K.taken out.new) pending.new opening) }
+    ensures sent { (before : Option (List ℕ)) (opening : List ℕ) (raws : List RawSolution) → slice_get raws number ≡ Some solution.now → IsTrue (shows parts.now.choice number) → AreSent parts.now.resolved.now raws (shows parts.now.choice) number sent before (K.taken out.old) opening → IfOk result (λ more. AreSent parts.now.resolved.now raws (shows parts.now.choice) (number + 1) more before (K.taken out.new) opening) }
     ensures fault { IsErrOf result Cut.WriteFault → Rose (K.faults out.old) (K.faults out.new) }
     ensures faultless { OnOk result (K.faults out.new ≡ K.faults out.old) }
     ensures faultless_starved { IsErrOf result Cut.NoMemory → K.faults out.new ≡ K.faults out.old }
 {
     let text = section(alloc, parts, number, solution)?;
-    pass_on(alloc, out, pending, &text)?;
+    send(out, &text)?;
     Ok(sent.saturating_add(text.as_bytes().len() as u64))
 }
 
-/// How many solutions are shown at most.
-fn shown_of(count: usize, most: u32) -> u32
-    ensures { result ≡ min count most }
-{
-    match u32::try_from(count) {
-        Ok(count) => count.min(most),
-        Err(_) => most,
-    }
-}
-
-/// Writes the sections of the first solutions, and answers how many were written.
-fn write_sections<K: Sink>(
+/// Writes the section of the solution with a number, where it is to be shown, after a number of bytes of sections, and
+/// answers how many were sent then.
+fn write_shown<K: Sink>(
     alloc: Global,
     out: &mut K,
-    pending: &mut Text,
     parts: &Parts<'_>,
-    most: u32,
-) -> Result<u32, Cut>
-    requires ones { AreOnes parts.now.resolved.now 0 (map (λ x. x.now) parts.now.raws.now) }
+    number: u32,
+    solution: &RawSolution,
+    sent: u64,
+) -> Result<u64, Cut>
+    requires one { IsOne parts.now.resolved.now number solution.now }
     requires rooms { parts.now.rooms.now ≡ map room_for parts.now.resolved.now.instances }
     requires same { length parts.now.archive.now.instances ≡ length parts.now.resolved.now.instances }
-    ensures sent { (before : Option (List ℕ)) (opening : List ℕ) → IsAmid before (K.taken out.old) pending.old [] opening → IfOk result (λ n. AreAllSent parts.now.resolved.now (map (λ x. x.now) parts.now.raws.now) most n before (K.taken out.new) pending.new opening) }
+    ensures sent { (before : Option (List ℕ)) (opening : List ℕ) (raws : List RawSolution) → slice_get raws number ≡ Some solution.now → AreSent parts.now.resolved.now raws (shows parts.now.choice) number sent before (K.taken out.old) opening → IfOk result (λ more. AreSent parts.now.resolved.now raws (shows parts.now.choice) (number + 1) more before (K.taken out.new) opening) }
+    ensures fault { IsErrOf result Cut.WriteFault → Rose (K.faults out.old) (K.faults out.new) }
+    ensures faultless { OnOk result (K.faults out.new ≡ K.faults out.old) }
+    ensures faultless_starved { IsErrOf result Cut.NoMemory → K.faults out.new ≡ K.faults out.old }
+{
+    if parts.choice.shows(number) {
+        return write_section(alloc, out, parts, number, solution, sent);
+    }
+    Ok(sent)
+}
+
+/// Writes the sections of the solutions that are to be shown, and answers of how many solutions they are.
+fn write_sections<K: Sink>(alloc: Global, out: &mut K, parts: &Parts<'_>) -> Result<u32, Cut>
+    requires ones { AreOnes parts.now.resolved.now 0 (map (λ x. x.now) parts.now.raws.now) }
+    requires few { length parts.now.raws.now < 2 ^ 32 }
+    requires rooms { parts.now.rooms.now ≡ map room_for parts.now.resolved.now.instances }
+    requires same { length parts.now.archive.now.instances ≡ length parts.now.resolved.now.instances }
+    ensures sent { (before : Option (List ℕ)) (opening : List ℕ) → IsAmid before (K.taken out.old) [] [] opening → IfOk result (λ n. AreAllSent parts.now.resolved.now (map (λ x. x.now) parts.now.raws.now) (shows parts.now.choice) n before (K.taken out.new) opening) }
     ensures fault { IsErrOf result Cut.WriteFault → Rose (K.faults out.old) (K.faults out.new) }
     ensures faultless { OnOk result (K.faults out.new ≡ K.faults out.old) }
     ensures faultless_starved { IsErrOf result Cut.NoMemory → K.faults out.new ≡ K.faults out.old }
 {
     let mut sent = 0u64;
     let raws = parts.raws;
-    let shown = shown_of(raws.len(), most);
-    for number in 0..shown {
+    let count = raws.len() as u32;
+    for number in 0..count {
         if sent > PAGE_BYTES {
             return Ok(number);
         }
         let place = number as usize;
         let raw = raws[place];
-        sent = write_section(alloc, out, pending, parts, number, raw, sent)?;
+        sent = write_shown(alloc, out, parts, number, raw, sent)?;
     }
-    Ok(shown)
+    Ok(count)
 }
 
-/// The beginning of the page with the summary.
-fn first_part(alloc: Global, parts: &Parts<'_>) -> Result<Text, NoMemory>
+/// The summary of all solutions.
+fn summary<R: Threads + Sync>(rt: &R, alloc: Global, parts: &Parts<'_>) -> Result<Text, NoMemory>
     requires ones { AreOnes parts.now.resolved.now 0 (map (λ x. x.now) parts.now.raws.now) }
     requires few { length parts.now.raws.now < 2 ^ 32 }
     requires rooms { parts.now.rooms.now ≡ map room_for parts.now.resolved.now.instances }
 {
-    let outcomes = outcomes(alloc, parts.resolved, parts.rooms, parts.raws)?;
+    let solutions = Solutions {
+        resolved: parts.resolved,
+        rooms: parts.rooms,
+        raws: parts.raws,
+    };
+    let outcomes = outcomes(rt, alloc, solutions, parts.choice.workers())?;
     let results = Results {
         archive: parts.archive,
         outcomes: outcomes.as_slice(),
         instances: parts.resolved.of.as_slice(),
         groups: parts.groups,
+        choice: parts.choice,
     };
     let mut page = Draft::new(alloc);
-    push_opening(alloc, &mut page, parts.archive, parts.raws.len());
     push_summary(alloc, &mut page, &results);
     page.into_text()
 }
 
-/// Writes the sections and the end of a page whose beginning waits.
-fn write_rest<K: Sink>(
-    alloc: Global,
-    out: &mut K,
-    pending: &mut Text,
-    parts: &Parts<'_>,
-    most: u32,
-) -> Result<(), Cut>
+/// Writes the sections and the end of a page whose beginning is written.
+fn write_rest<K: Sink>(alloc: Global, out: &mut K, parts: &Parts<'_>) -> Result<(), Cut>
     requires { AreParts parts.now }
-    ensures put { (before : Option (List ℕ)) (opening : List ℕ) → IsAmid before (K.taken out.old) pending.old [] opening → OnOk result (IsPut parts.now.archive.now parts.now.resolved.now most before (K.taken out.new)) }
+    ensures put { (before : Option (List ℕ)) (opening : List ℕ) → IsAmid before (K.taken out.old) [] [] opening → OnOk result (IsPut parts.now.archive.now parts.now.resolved.now (shows parts.now.choice) before (K.taken out.new)) }
     ensures fault { IsErrOf result Cut.WriteFault → Rose (K.faults out.old) (K.faults out.new) }
     ensures faultless { OnOk result (K.faults out.new ≡ K.faults out.old) }
     ensures faultless_starved { IsErrOf result Cut.NoMemory → K.faults out.new ≡ K.faults out.old }
 {
-    let shown = write_sections(alloc, out, pending, parts, most)?;
-    let end = closing(alloc, shown, parts.raws.len())?;
-    pass_on(alloc, out, pending, &end)?;
-    flush(alloc, out, pending)
+    let shown = write_sections(alloc, out, parts)?;
+    let end = closing(alloc, &parts.choice, shown, parts.raws.len())?;
+    send(out, &end)
+}
+
+/// Writes the summary, the sections and the end of a page whose head is written.
+fn write_judged<R: Threads + Sync, K: Sink>(
+    rt: &R,
+    alloc: Global,
+    out: &mut K,
+    parts: &Parts<'_>,
+) -> Result<(), Cut>
+    requires { AreParts parts.now }
+    ensures put { (before : Option (List ℕ)) (head : List ℕ) → IsAmid before (K.taken out.old) [] [] head → OnOk result (IsPut parts.now.archive.now parts.now.resolved.now (shows parts.now.choice) before (K.taken out.new)) }
+    ensures fault { IsErrOf result Cut.WriteFault → Rose (K.faults out.old) (K.faults out.new) }
+    ensures faultless { OnOk result (K.faults out.new ≡ K.faults out.old) }
+    ensures faultless_starved { IsErrOf result Cut.NoMemory → K.faults out.new ≡ K.faults out.old }
+{
+    let text = summary(rt, alloc, parts)?;
+    send(out, &text)?;
+    write_rest(alloc, out, parts)
 }
 
 /// Writes the page of an archive with what its sections look up.
-fn write_parts<K: Sink>(alloc: Global, out: &mut K, parts: &Parts<'_>, most: u32) -> Result<(), Cut>
+fn write_parts<R: Threads + Sync, K: Sink>(
+    rt: &R,
+    alloc: Global,
+    out: &mut K,
+    parts: &Parts<'_>,
+) -> Result<(), Cut>
     requires { AreParts parts.now }
-    ensures put { OnOk result (IsPut parts.now.archive.now parts.now.resolved.now most (K.taken out.old) (K.taken out.new)) }
+    ensures put { OnOk result (IsPut parts.now.archive.now parts.now.resolved.now (shows parts.now.choice) (K.taken out.old) (K.taken out.new)) }
     ensures fault { IsErrOf result Cut.WriteFault → Rose (K.faults out.old) (K.faults out.new) }
     ensures faultless { OnOk result (K.faults out.new ≡ K.faults out.old) }
     ensures faultless_starved { IsErrOf result Cut.NoMemory → K.faults out.new ≡ K.faults out.old }
 {
-    let mut pending = first_part(alloc, parts)?;
-    write_rest(alloc, out, &mut pending, parts, most)
+    let text = opening(alloc, &parts.choice, parts.archive, parts.raws.len())?;
+    send(out, &text)?;
+    write_judged(rt, alloc, out, parts)
 }
 
 /// Writes the page of an archive.
-fn write<K: Sink>(
+fn write<R: Threads + Sync, K: Sink>(
+    rt: &R,
     alloc: Global,
     out: &mut K,
     archive: &Archive,
     resolved: &Resolved,
-    most: u32,
+    choice: &Choice<'_>,
 ) -> Result<(), Cut>
     requires { IsReady archive.now resolved.now }
-    ensures put { OnOk result (IsPut archive.now resolved.now most (K.taken out.old) (K.taken out.new)) }
+    ensures put { OnOk result (IsPut archive.now resolved.now (shows choice.now) (K.taken out.old) (K.taken out.new)) }
     ensures fault { IsErrOf result Cut.WriteFault → Rose (K.faults out.old) (K.faults out.new) }
     ensures faultless { OnOk result (K.faults out.new ≡ K.faults out.old) }
     ensures faultless_starved { IsErrOf result Cut.NoMemory → K.faults out.new ≡ K.faults out.old }
@@ -390,6 +438,7 @@ fn write<K: Sink>(
         rooms: rooms.as_slice(),
         groups: groups.as_slice(),
         raws: raws.as_slice(),
+        choice: *choice,
     };
-    write_parts(alloc, out, &parts, most)
+    write_parts(rt, alloc, out, &parts)
 }

@@ -12,12 +12,13 @@ use crate::draft::Draft;
 use crate::events::push_events;
 use crate::grids::push_grids;
 use crate::kinds::{kind_name, kind_of, push_kinds};
-use crate::layout::layout_of;
+use crate::labels::labels_of;
+use crate::layout::{group_names, layout_of};
 use crate::marking::{push_invalid, push_totals};
-use crate::naming::{constraint_id, constraint_name, instance_name};
+use crate::naming::{constraint_id, constraint_name, event_name, instance_name};
 use crate::parts::Spelled;
 use crate::view::View;
-use khe_base::{CostFn, NoMemory, Seq, Text, Totals};
+use khe_base::{CostFn, NoMemory, Seq, Text, Totals, beside, both};
 use khe_instance::{Constraint, Instance, Plain};
 use plain_eval::Values;
 use std::alloc::Global;
@@ -26,7 +27,7 @@ use xhstt_shape::RawInstance;
 /// The head of a section: the number of the solution, its instance and its group.
 fn push_head(page: &mut Draft, spelled: &Spelled<'_>) {
     let number = u128::from(spelled.number);
-    page.push_counted("<section class=\"sol\" id=\"s", number, "\">");
+    page.push_counted("<section class=sol id=s", number, ">");
     page.push_counted("<h2>Solution ", number, ": ");
     page.push_named("", instance_name(spelled.instance), " ");
     page.push_named("<small>by ", spelled.group, "</small></h2>\n");
@@ -37,6 +38,20 @@ fn push_head(page: &mut Draft, spelled: &Spelled<'_>) {
     if let Some(running_time) = &solution.running_time {
         page.push_named("<p>Running time: ", running_time, "</p>\n");
     }
+}
+
+/// Adds the links from the head of a valid solution's section to its parts.
+fn push_ways(page: &mut Draft, number: u32) {
+    let number = u128::from(number);
+    page.push_counted(
+        "<nav class=ways aria-label=\"Solution ",
+        number,
+        "\"><a href=#s",
+    );
+    page.push_counted("", number, "k>Costs by kind</a> <a href=#s");
+    page.push_counted("", number, "o>Costs by constraint</a> <a href=#s");
+    page.push_counted("", number, "t>Timetables</a> <a href=#s");
+    page.push_counted("", number, "v>Events</a></nav>\n");
 }
 
 /// The head of a section, as a text of its own.
@@ -65,7 +80,7 @@ fn joined(head: Text, totals: Totals, rest: &Text) -> Result<Text, NoMemory>
     Ok(page)
 }
 
-/// The section of an invalid solution.
+/// The section of an invalid solution: why it is, and the event of the entry that the cause is found at.
 pub(crate) fn invalid_section(
     alloc: Global,
     spelled: &Spelled<'_>,
@@ -75,18 +90,58 @@ pub(crate) fn invalid_section(
     ensures { IfOk result (IsSection (InvalidVerdict cause entry)) }
 {
     let head = head_of(alloc, spelled)?;
-    let mut page = head;
-    push_cause(&mut page, cause, entry)?;
+    let rest = entry_text(alloc, spelled, entry)?;
+    let page = joined_cause(head, cause, entry, &rest)?;
     Ok(page)
 }
 
-/// Adds what a section says of a solution that is invalid, and ends the section.
+/// A section of its head, the cause, and the rest.
+fn joined_cause(head: Text, cause: u32, entry: u32, rest: &Text) -> Result<Text, NoMemory>
+    ensures { IfOk result (λ page. page ≡ head ++ (spec.cause_text cause entry ++ rest.now)) }
+{
+    let mut page = head;
+    push_cause(&mut page, cause, entry)?;
+    page.push_text(rest)?;
+    Ok(page)
+}
+
+/// Adds what a section says of a solution that is invalid.
 fn push_cause(page: &mut Text, cause: u32, entry: u32) -> Result<(), NoMemory>
     ensures { OnOk result (page.new ≡ page.old ++ spec.cause_text cause entry) }
 {
     page.push_literal("<p class=\"bad\">")?;
     push_invalid(page, cause, entry)?;
-    page.push_literal("</p></section>\n")
+    page.push_literal("</p>\n")
+}
+
+/// Whose entry the entry with a number is, and the end of the section.
+fn entry_text(alloc: Global, spelled: &Spelled<'_>, entry: u32) -> Result<Text, NoMemory> {
+    let mut page = Draft::new(alloc);
+    let mut number = 0u32;
+    let mut views = spelled.solution.events.views();
+    for _ in 0..spelled.solution.events.len() {
+        if let Some(view) = views.next() {
+            if number == entry {
+                push_entry(&mut page, spelled.instance, entry, view.reference().text);
+            }
+        }
+        number = number.saturating_add(1);
+    }
+    page.push_literal("</section>\n");
+    page.into_text()
+}
+
+/// Adds that an entry is of the event with this Id.
+fn push_entry(page: &mut Draft, raw: &RawInstance, entry: u32, id: &str) {
+    let mut number = 0u32;
+    for event in raw.events.as_slice() {
+        if event.id.text.is_spelled(id) {
+            page.push_counted("<p>Entry ", u128::from(entry), " is of the event ");
+            page.push_named("", event_name(raw, number), "");
+            page.push_named(" (Id ", &event.id.text, ").</p>\n");
+        }
+        number = number.saturating_add(1);
+    }
 }
 
 /// How a constraint's cost counts.
@@ -113,19 +168,15 @@ fn push_constraint_row(
     constraint: &Constraint,
     defects: &[Defect],
 ) {
-    page.push_place("<tr id=\"s", number, "c", which, "\"><td>");
+    page.push_place("<tr id=s", number, "c", which, "><td>");
     page.push_str(kind_name(kind_of(&constraint.rule)));
-    page.push_named("</td><th scope=\"row\">", constraint_name(raw, which), "");
+    page.push_named("<th scope=row>", constraint_name(raw, which), "");
     if let Some(id) = constraint_id(raw, which) {
         page.push_named(" <small>", id, "</small>");
     }
-    page.push_literal("</th><td>");
+    page.push_literal("<td>");
     page.push_str(hardness(constraint.required));
-    page.push_counted(
-        "</td><td class=\"num\">",
-        u128::from(constraint.weight),
-        " ",
-    );
+    page.push_counted("<td class=num>", u128::from(constraint.weight), " ");
     page.push_str(cost_function(constraint.cost));
     page.push_spent(defects.len(), cost_of(defects));
 }
@@ -151,28 +202,29 @@ fn push_constraint(
 /// Adds the table of what the solution costs by constraint, in the order of the instance, those first of which a
 /// monitor deviates.
 fn push_costs(alloc: Global, page: &mut Draft, view: &View<'_>, defects: &Seq<Seq<Defect>>) {
-    page.push_literal(
-        "<details open><summary>Costs by constraint</summary><div class=\"wide\"><table class=\"costs\">",
+    page.push_counted(
+        "<details open id=s",
+        u128::from(view.number),
+        "o><summary>Costs by constraint</summary>",
     );
-    page.push_literal("<thead><tr><th scope=\"col\">Kind</th><th scope=\"col\">Constraint</th>");
-    page.push_literal("<th scope=\"col\">Counts as</th><th scope=\"col\">Weight</th>");
-    page.push_literal(
-        "<th scope=\"col\">Deviate</th><th scope=\"col\">Cost</th></tr></thead><tbody>\n",
-    );
+    page.push_literal("<div class=wide tabindex=0 role=region aria-label=\"Costs by constraint\">");
+    page.push_literal("<table class=costs><thead><tr><th scope=col>Kind<th scope=col>Constraint");
+    page.push_literal("<th scope=col>Counts as<th scope=col>Weight");
+    page.push_literal("<th scope=col>Deviate<th scope=col>Cost<tbody>\n");
     for which in 0..view.inst.constraints() {
         let list = list_at(defects, which);
         if !list.is_empty() {
             push_constraint(alloc, page, view, which, list);
         }
     }
-    page.push_literal("</tbody><tbody class=\"fine\">\n");
+    page.push_literal("<tbody class=fine>\n");
     for which in 0..view.inst.constraints() {
         let list = list_at(defects, which);
         if list.is_empty() {
             push_constraint(alloc, page, view, which, list);
         }
     }
-    page.push_literal("</tbody></table></div></details>\n");
+    page.push_literal("</table></div></details>\n");
 }
 
 /// Puts the defects of each constraint in order, the dearest first.
@@ -202,7 +254,8 @@ fn push_below(
     defects: &Seq<Seq<Defect>>,
     deviations: &[u64],
 ) {
-    push_kinds(page, view.inst, defects);
+    push_ways(page, view.number);
+    push_kinds(alloc, page, view.number, view.inst, defects);
     push_costs(alloc, page, view, defects);
     push_grids(alloc, page, view, deviations);
     push_events(page, view);
@@ -235,15 +288,21 @@ fn rest_of(
 ) -> Result<Text, NoMemory>
     requires { (length values.now.deviations ≡ length inst.now.monitors) × (length values.now.costs ≡ length inst.now.monitors) }
 {
-    let table = timetable_of(alloc, inst, plain)?;
-    let layout = layout_of(alloc, spelled.instance)?;
+    let raw = spelled.instance;
+    let table = timetable_of(alloc, inst, plain);
+    let labels = labels_of(alloc, inst, raw, spelled.number);
+    let names = group_names(alloc, raw)?;
+    let layout = layout_of(alloc, raw, &names);
+    let ((table, labels), (layout, names)) = both(both(table, labels), beside(layout, names))?;
     let view = View {
         number: spelled.number,
         inst,
-        raw: spelled.instance,
+        raw,
         plain,
         table: &table,
         layout: &layout,
+        labels: &labels,
+        time_groups: &names,
     };
     below(alloc, &view, values)
 }

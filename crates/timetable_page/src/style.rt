@@ -8,36 +8,43 @@ pub(crate) const STYLE: &str = r#"
 @media(prefers-color-scheme:dark){:root{--ink:#e8e9ee;--soft:#a3a8b6;--back:#15161a;--band:#1f2127;--line:#3a3d47;
 --link:#8ab8ff;--bad:#ff9c9c;--badback:#42191c;--idle:#ffd479;--idleback:#3a2c08;--best:#7fdc9b}}
 *{box-sizing:border-box}
+html{scroll-padding-top:3rem}
 body{margin:0 auto;padding:1rem;max-width:80rem;font:1rem/1.45 system-ui,sans-serif;color:var(--ink);
 background:var(--back)}
-h1,h2,h3,h4,p,dd,li{overflow-wrap:anywhere}
+h1,h2,h3,h4,p,dd,li{overflow-wrap:break-word}
 h1{font-size:1.6rem;margin:.2rem 0}h2{font-size:1.25rem;margin:.2rem 0 .5rem}h3{margin:1rem 0 .3rem}h4{margin:.8rem 0 .2rem}
 a{color:var(--link)}small,.nothing,dt{color:var(--soft)}
 dl{display:grid;grid-template-columns:max-content 1fr;gap:.1rem .8rem}dd{margin:0}
+nav a{display:inline-block;padding:.15rem .5rem .15rem 0;white-space:nowrap}
+.top{position:sticky;top:0;z-index:3;background:var(--back);border-bottom:1px solid var(--line);overflow-x:auto;
+white-space:nowrap;padding:.3rem 0}
 .sol{border-top:2px solid var(--line);margin-top:1.6rem;padding-top:1rem}
 .totals{font-size:1.15rem}
-.wide,.one{overflow-x:auto}
-table{border-collapse:collapse;margin:.3rem 0 .8rem}
-th,td{border:1px solid var(--line);padding:.25rem .5rem;text-align:left;vertical-align:top}
-thead th{background:var(--band)}
+.wide,.one{overflow:auto;max-height:85vh}
+table{border-collapse:separate;border-spacing:0;margin:.3rem 0 .8rem;border-top:1px solid var(--line);
+border-left:1px solid var(--line)}
+th,td{border:0 solid var(--line);border-width:0 1px 1px 0;padding:.25rem .5rem;text-align:left;vertical-align:top}
+thead th,thead td{background:var(--band);position:sticky;top:0;z-index:1}
+th[scope=row]{position:sticky;left:0;z-index:1;background:var(--back)}
+thead th:first-child,thead td:first-child{left:0;z-index:2}.costs th[scope=row]{position:static}
 .num{text-align:right;font-variant-numeric:tabular-nums}
 .fine{color:var(--soft)}.fine th{font-weight:normal}
-.why td{background:var(--band)}
+.why>td{background:var(--band)}
 .grid{width:100%}.grid th[scope=col]{width:12rem;min-width:7rem}
 .grid td{font-size:.9rem}.grid th[scope=row]{width:2.5rem}.grid thead td{width:2.5rem;min-width:2.5rem}
-.grid div+div{border-top:1px dashed var(--line);margin-top:.2rem;padding-top:.2rem}
-.grid div a:first-child{font-weight:600}
-caption{position:absolute;width:1px;height:1px;overflow:hidden;clip-path:inset(50%)}
+.grid hr{border:0;border-top:1px dashed var(--line);margin:.2rem 0}
+.grid td>a:not(.mark){margin-right:.25rem}
+caption{text-align:left;font-weight:600}
 .bad{color:var(--bad);font-weight:600}
-td.bad{background:var(--badback);border:2px solid var(--bad);font-weight:400}
-td.idle{background:var(--idleback);border-style:dashed}
-td.off{color:var(--soft);background:var(--band);border-style:dotted}
+td.bad{background:var(--badback);box-shadow:inset 0 0 0 2px var(--bad);font-weight:400}
+td.idle{background:var(--idleback);outline:1px dashed var(--idle);outline-offset:-2px}
+td.off{color:var(--soft);background:var(--band)}
 td.gap,.more{color:var(--soft)}.more{display:block;font-size:.8rem}
 td.none{border:0}
 .mark{display:block;font-weight:700;font-size:.8rem;color:var(--bad)}.idle .mark{color:var(--idle)}
 .best{color:var(--best);font-weight:700;white-space:nowrap}
 summary{cursor:pointer;font-weight:600;padding:.2rem 0}.why summary{font-weight:400}
-.why ul{margin:.2rem 0;padding-left:1.2rem;max-width:86vw}
+.why ul{margin:.2rem 0;padding-left:1.2rem;max-width:80vw}
 button{font:inherit;color:inherit;background:none;border:0;padding:0;cursor:pointer;text-align:left;
 text-decoration:underline dotted}
 th[aria-sort=ascending] button::after{content:" \25b2"}th[aria-sort=descending] button::after{content:" \25bc"}
@@ -45,18 +52,19 @@ search{display:block;margin:.8rem 0}label{display:block}
 input{font:inherit;width:100%;max-width:28rem;padding:.35rem .5rem;color:inherit;background:var(--band);
 border:1px solid var(--line);border-radius:.3rem}
 #found{list-style:none;margin:.3rem 0;padding:0;columns:18rem}
-.legend{color:var(--soft);margin:.4rem 0}.week{font-weight:600;margin:.5rem 0 .1rem}
+.legend{color:var(--soft);margin:.4rem 0}
 @media screen and (max-width:40rem){th,td{padding:.15rem .25rem}.costs{font-size:.7rem;width:100%}
-.costs th,.costs td,.grid td{overflow-wrap:anywhere}.costs thead th{overflow-wrap:normal}
-.costs td:first-child:not([colspan]){min-width:5rem}.why ul{padding-left:1rem}.costs .why{font-size:.85rem}
+.costs .why{font-size:.85rem}.why ul{padding-left:1rem}
 .grid td{font-size:.75rem}.grid th[scope=col]{width:auto;min-width:3.9rem;font-size:.8rem}
 .grid th[scope=row],.grid thead td{width:1.5rem;min-width:1.5rem}}
 :focus-visible{outline:3px solid var(--link);outline-offset:2px}
 :target{outline:3px solid var(--link);outline-offset:1px}
 @media print{:root{color-scheme:light;--ink:#000;--soft:#000;--back:#fff;--band:#fff;--line:#888;--link:#000;--bad:#000;
 --badback:#fff;--idle:#000;--idleback:#fff;--best:#000}
-body{max-width:none;padding:0;font-size:9pt}search,noscript{display:none}a,button{color:inherit;text-decoration:none}
-.one{break-inside:avoid;overflow:visible}h3,.week{break-after:avoid}.wide{overflow:visible}.sol{break-before:page}
+body{max-width:none;padding:0;font-size:9pt}search,noscript,nav,.times{display:none}
+a,button{color:inherit;text-decoration:none}th,thead th,thead td,th[scope=row]{position:static}
+.one{break-inside:avoid;overflow:visible;max-height:none}h3,caption{break-after:avoid}
+.wide{overflow:visible;max-height:none}.sol{break-before:page}
 tr,li{break-inside:avoid}thead{display:table-header-group}.grid td{min-width:0}}
 "#;
 
@@ -71,6 +79,10 @@ const go=()=>{const e=document.getElementById(place());
  if(e){open(e);const d=e.querySelector('details');if(d&&e.tagName==='TR')d.open=true;e.scrollIntoView()}};
 addEventListener('hashchange',go);go();
 addEventListener('beforeprint',()=>all('details').forEach(d=>d.open=true));
+all('.sol').forEach(s=>{const names=all('.times table',s).map(t=>Array.from(t.tBodies[0].rows,
+ r=>Array.from(r.cells,c=>c.textContent)));
+ all('.one',s).forEach(o=>all('table',o).forEach((t,k)=>Array.from(t.tBodies[0].rows).forEach((r,i)=>
+ Array.from(r.cells).forEach((c,j)=>{if(c.tagName==='TD'&&c.className!=='none'&&!c.title)c.title=names[k][i][j]}))))});
 const value=c=>c.dataset.v?c.dataset.v.split(' ').map(BigInt):null;
 const order=(a,b)=>{const x=value(a),y=value(b);
  if(x&&y)return x[0]<y[0]?-1:x[0]>y[0]?1:x[1]<y[1]?-1:x[1]>y[1]?1:0;

@@ -1,7 +1,8 @@
 -- The opening, the sections and the closing are the page.
 use Rattle.std.proofs.Common.{Bor, [], ◌++◌, map}
 use Rattle.khe_io.proofs.AmidLemmas.{one-ok}
-use Rattle.timetable_page.proofs.PageLemmas.{amid_text, put_whole, whole_took}
+use Rattle.timetable_page.specs.Words.{shows}
+use Rattle.timetable_page.proofs.PageLemmas.{amid_text, put_whole}
 use Rattle.timetable_page.proofs.program.write_rest.Goals as goal
 use Rattle.xhstt_shape.specs.declared.records.RawSolution.{RawSolution}
 
@@ -13,10 +14,6 @@ returns-clause-put g c = λ before opening h.
     let all = c.in_ok-shown.ensures.sent before opening h in
     let w = opening ++ all.sections in
     let end = c.in_ok-end.end in
-    let amid = c.in_ok-pass_on.ensures.amid before [] (w ++ end)
-    (amid_text before sent c.write_sections.new.pending w end all.amid) in
-    one-ok c.flush.result c.flush.ensures.taken
-    (λ took. put_whole parts.archive.now parts.resolved.now raws c.args.most c.in_ok-shown.shown before sent
-    (g.K.Sink.taken c.flush.new.out) c.write_sections.new.pending opening end c.requires.raws all
-    (whole_took before (g.K.Sink.taken c.pass_on.new.out) (g.K.Sink.taken c.flush.new.out) c.pass_on.new.pending
-    (w ++ end) amid took))
+    one-ok c.send.result (c.send.ensures.amid before [] (w ++ end) (amid_text before sent w end all.amid))
+    (λ amid. put_whole parts.archive.now parts.resolved.now raws (shows parts.choice) c.in_ok-shown.shown before sent
+    (g.K.Sink.taken c.send.new.out) opening end c.requires.raws all amid)
