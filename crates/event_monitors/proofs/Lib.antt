@@ -1,5 +1,6 @@
 pub mod CutLaws
 pub mod EffectLaws
+pub mod ForeseeLaws
 pub mod KeeperLaws
 pub mod Listing
 pub mod PostLaws

@@ -6,6 +6,7 @@ use Rattle.khe_told.specs.Agreement.{deviation_in}
 use Rattle.khe_told.specs.Effects.{AreTurns, IsCut, turned_all}
 use Rattle.khe_told.specs.Turns.{SlotTurn}
 use Rattle.khe_told.specs.declared.slots.Slot.{Slot}
+use Rattle.event_monitors.specs.Posts.{names}
 use Rattle.event_monitors.specs.Turns.{has}
 use Rattle.event_monitors.specs.declared.posts.Post.{Post}
 
@@ -24,3 +25,13 @@ AreKeptOrWait {G} keeps p posts gauges waits s = (k : ℕ) (a : Post) (g : G) �
 abbrev pub HoldOrWait : (ℕ → Post → Type 0) → List Post → List ℕ → List ℕ → (ℕ → Bool) → Type 0
 HoldOrWait fact posts list rest waits = (k : ℕ) (a : Post) → has list k ≡ true → has rest k ≡ false
     → slice_get posts k ≡ Some a → waits a.number.0 ≡ false → fact k a
+
+-- the monitor names the event of none of some turns
+abbrev pub NameNone : Parts → Monitor → List SlotTurn → Type 0
+NameNone p m [] = Unit {0}
+NameNone p m (t ∷ ts) = (names p t.before.event.0 m ≡ false) × NameNone p m ts
+
+-- a fact holds of the monitors at all places of a list
+abbrev pub HoldAt : (Monitor → Type 0) → List Post → List ℕ → Type 0
+HoldAt fact posts [] = Unit {0}
+HoldAt fact posts (k ∷ ks) = ((a : Post) → slice_get posts k ≡ Some a → fact a.monitor) × HoldAt fact posts ks

@@ -1,5 +1,6 @@
 //! A keeper with a gauge for each monitor.
 
+use crate::foreseeing::foresee;
 use crate::gauges::Gauge;
 use crate::indexes::Index;
 use crate::posts::gauges_of;
@@ -31,8 +32,9 @@ impl<G: Drop> Drop for Counted<G> {
 }
 
 impl<G: Gauge + Drop> Keeper for Counted<G> {
-    ghost use Rattle.std.specs.Prelude.{◌≡◌, length};
+    ghost use Rattle.std.specs.Prelude.{ℕ, ◌≡◌, Some, length, slice_get};
     ghost use Rattle.event_monitors.specs.Posts.{ArePosts, AreListed, AreKept, ArePlaces};
+    ghost use Rattle.event_monitors.specs.declared.posts.Post.{Post};
 
     ghost serves_kind = { G.serves_kind };
 
@@ -42,7 +44,8 @@ impl<G: Gauge + Drop> Keeper for Counted<G> {
         × (length f.gauges.items ≡ length f.index.posts) × AreKept G.Keeps p f.index.posts f.gauges.items s
         × ArePlaces f.index.posts f.index.places.items };
 
-    ghost Foresees = { λ f p ts. G.Foresees ts };
+    ghost Foresees = { λ f p ts. AreListed p f.index.posts f.index.lists → (k : ℕ) (a : Post)
+        → slice_get f.index.posts k ≡ Some a → G.Foresees p a.monitor ts };
 
     fn open(alloc: Global, inst: &Instance) -> Result<Counted<G>, NoMemory> {
         let index = Index::open::<G>(alloc, inst)?;
@@ -70,8 +73,7 @@ impl<G: Gauge + Drop> Keeper for Counted<G> {
     }
 
     fn foresees(&self, inst: &Instance, effects: &Effects<'_>) -> bool {
-        let _ = inst;
-        G::foresees(effects)
+        G::foresees_always(effects) || foresee::<G>(inst, &self.index, effects)
     }
 
     fn queue_affected<W: Waits>(

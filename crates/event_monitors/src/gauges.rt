@@ -11,7 +11,7 @@ ghost use Rattle.khe_told.specs.Effects.{AreTurns, turned_all};
 ghost use Rattle.khe_told.specs.Slots.{emptied, no_meets, slot_at};
 ghost use Rattle.khe_told.specs.Turns.{IsTurn, SlotTurn, turned};
 ghost use Rattle.khe_told.specs.declared.slots.Slot.{Slot};
-ghost use Rattle.event_monitors.specs.Effects.{IsUncut};
+ghost use Rattle.event_monitors.specs.Effects.{IsUncut, NameNone};
 ghost use Rattle.event_monitors.specs.Posts.{names};
 
 use khe_base::NoMemory;
@@ -63,12 +63,16 @@ pub trait Gauge {
         ensures value { result ≡ value self.now inst.now monitor }
         ensures small { result ≤ GREATEST_DEVIATION };
 
-    /// That gauges can tell the deviations after effects without a change.
-    ghost Foresees: { List SlotTurn → Type 0 };
+    /// That the gauge of a monitor can tell the deviation after effects without a change.
+    ghost Foresees: { Parts → Monitor → List SlotTurn → Type 0 };
 
-    /// Whether `value_after` may be asked about these effects. It takes constant time.
-    fn foresees(effects: &Effects<'_>) -> bool
-        ensures { result ≡ true → Foresees effects.now };
+    /// Whether `value_after` may be asked about these effects, whatever the monitor. It takes constant time.
+    fn foresees_always(effects: &Effects<'_>) -> bool
+        ensures { result ≡ true → (p : Parts) (m : Monitor) → Foresees p m effects.now };
+
+    /// Whether `value_after` may be asked about these effects for a monitor. It takes constant time.
+    fn foresees(inst: &Instance, monitor: Monitor, effects: &Effects<'_>) -> bool
+        ensures { result ≡ true → Foresees inst.now monitor effects.now };
 
     /// Whether an effect on a slot may change what a gauge keeps or reads. It takes the time of the slot's places.
     fn observes(effect: &Effect<'_>) -> bool
@@ -101,7 +105,7 @@ pub trait Gauge {
     ) -> u64
         requires keeps { Keeps self.now inst.now monitor told.now }
         requires turns { AreTurns inst.now told.now effects.now }
-        requires foreseen { Foresees effects.now }
+        requires foreseen { Foresees inst.now monitor effects.now }
         ensures value { deviation_in inst.now (turned_all told.now effects.now) monitor ≡ result }
         ensures small { result ≤ GREATEST_DEVIATION };
 
@@ -114,6 +118,9 @@ pub trait Gauge {
     /// An effect that leaves what it keeps keeps it valid.
     ghost unaffected: { (g : Self) (p : Parts) (m : Monitor) (s : List Slot) (t : SlotTurn) → IsUnaffected g p m t →
         IsTurn p s t → Keeps g p m s → Keeps g p m (turned s t) };
+
+    /// Effects on slots of events that the monitor does not name are foreseen.
+    ghost foresees_elsewhere: { (p : Parts) (m : Monitor) (ts : List SlotTurn) → NameNone p m ts → Foresees p m ts };
 
     /// A change of a slot of an event that the monitor does not name keeps it valid.
     ghost elsewhere: { (g : Self) (p : Parts) (m : Monitor) (s : List Slot) (k : ℕ) (x : Slot) → k < length s → emptied x ≡ emptied (slot_at s k)

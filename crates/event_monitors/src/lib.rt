@@ -8,6 +8,7 @@ mod assign_time;
 mod counted;
 mod distribute_split_events;
 mod effects;
+mod foreseeing;
 mod gauges;
 mod indexes;
 mod lists;

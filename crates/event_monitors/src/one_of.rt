@@ -62,11 +62,17 @@ impl<A: Gauge + Drop, B: Gauge + Drop> Gauge for OneOf<A, B> {
         }
     }
 
-    ghost Foresees = { λ ts. A.Foresees ts × B.Foresees ts };
+    ghost Foresees = { λ p m ts. A.Foresees p m ts × B.Foresees p m ts };
 
-    fn foresees(effects: &Effects<'_>) -> bool {
-        A::foresees(effects) && B::foresees(effects)
+    fn foresees_always(effects: &Effects<'_>) -> bool {
+        A::foresees_always(effects) && B::foresees_always(effects)
     }
+
+    fn foresees(inst: &Instance, monitor: Monitor, effects: &Effects<'_>) -> bool {
+        A::foresees(inst, monitor, effects) && B::foresees(inst, monitor, effects)
+    }
+
+    ghost foresees_elsewhere = { λ p m ts h. (A.foresees_elsewhere p m ts h, B.foresees_elsewhere p m ts h) };
 
     fn observes(effect: &Effect<'_>) -> bool {
         A::observes(effect) || B::observes(effect)

@@ -72,12 +72,21 @@ impl Gauge for Split {
         measure_both(inst, monitor, self.unfit, self.meets)
     }
 
-    ghost Foresees = { λ ts. Unit {0} };
+    ghost Foresees = { λ p m ts. Unit {0} };
 
-    fn foresees(effects: &Effects<'_>) -> bool {
+    fn foresees_always(effects: &Effects<'_>) -> bool {
         let _ = effects;
         true
     }
+
+    fn foresees(inst: &Instance, monitor: Monitor, effects: &Effects<'_>) -> bool {
+        let _ = inst;
+        let _ = monitor;
+        let _ = effects;
+        true
+    }
+
+    ghost foresees_elsewhere = { λ p m ts h. tt };
 
     fn observes(effect: &Effect<'_>) -> bool {
         alters_duration(effect)

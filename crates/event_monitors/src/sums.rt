@@ -93,12 +93,21 @@ impl<S: Summed> Gauge for Sum<S> {
         measure::<S>(inst, monitor, self.total)
     }
 
-    ghost Foresees = { λ ts. Unit {0} };
+    ghost Foresees = { λ p m ts. Unit {0} };
 
-    fn foresees(effects: &Effects<'_>) -> bool {
+    fn foresees_always(effects: &Effects<'_>) -> bool {
         let _ = effects;
         true
     }
+
+    fn foresees(inst: &Instance, monitor: Monitor, effects: &Effects<'_>) -> bool {
+        let _ = inst;
+        let _ = monitor;
+        let _ = effects;
+        true
+    }
+
+    ghost foresees_elsewhere = { λ p m ts h. tt };
 
     fn observes(effect: &Effect<'_>) -> bool {
         S::observes(effect)

@@ -31,17 +31,17 @@ two_keep kept a b ts is h k = subst (AllKeep kept) is (h, (k, tt))
 
 module _ {G : Type 0} (keeps : G → Parts → Monitor → List Slot → Type 0) (value : G → Parts → Monitor → ℕ)
     (exact : (g : G) (p : Parts) (m : Monitor) (s : List Slot) → keeps g p m s → deviation_in p s m ≡ value g p m)
-    (kept : SlotTurn → Type 0)
-    (deaf : (g : G) (p : Parts) (m : Monitor) (s : List Slot) (t : SlotTurn) → kept t → IsTurn p s t → keeps g p m s
+    (kept : Parts → Monitor → SlotTurn → Type 0)
+    (deaf : (g : G) (p : Parts) (m : Monitor) (s : List Slot) (t : SlotTurn) → kept p m t → IsTurn p s t → keeps g p m s
     → keeps g p m (turned s t)) where
-  all_kept : (g : G) (p : Parts) (m : Monitor) (s : List Slot) (ts : List SlotTurn) → AllKeep kept ts
+  all_kept : (g : G) (p : Parts) (m : Monitor) (s : List Slot) (ts : List SlotTurn) → AllKeep (kept p m) ts
       → AreTurns p s ts → keeps g p m s → keeps g p m (turned_all s ts)
   all_kept g p m s [] h turns is = is
   all_kept g p m s (t ∷ ts) h turns is = all_kept g p m (turned s t) ts h.1 turns.1 (deaf g p m s t h.0 turns.0 is)
 
   -- what is read is the deviation after the effects
   pub foreseen_value : (g : G) (p : Parts) (m : Monitor) (s : List Slot) (ts : List SlotTurn) → IsUncut keeps value g
-      → AreCutOrKeep kept ts → AreTurns p s ts → keeps g p m s → deviation_in p (turned_all s ts) m ≡ value g p m
+      → AreCutOrKeep (kept p m) ts → AreTurns p s ts → keeps g p m s → deviation_in p (turned_all s ts) m ≡ value g p m
   foreseen_value g p m s ts uncut (inr h) turns is = exact g p m (turned_all s ts) (all_kept g p m s ts h turns is)
   foreseen_value g p m s [] uncut (inl h) turns is = absurd h
   foreseen_value g p m s (a ∷ []) uncut (inl h) turns is = absurd h

@@ -1,5 +1,6 @@
 pub mod AvoidSplitAssignments
 pub mod Candidates
+pub mod ForeseenElsewhereLaws
 pub mod Foreseeing
 pub mod Handings
 pub mod LeastTrees

@@ -94,12 +94,21 @@ impl Gauge for Holders {
         u64::from(self.above.saturating_sub(1))
     }
 
-    ghost Foresees = { λ ts. Unit {0} };
+    ghost Foresees = { λ p m ts. Unit {0} };
 
-    fn foresees(effects: &Effects<'_>) -> bool {
+    fn foresees_always(effects: &Effects<'_>) -> bool {
         let _ = effects;
         true
     }
+
+    fn foresees(inst: &Instance, monitor: Monitor, effects: &Effects<'_>) -> bool {
+        let _ = inst;
+        let _ = monitor;
+        let _ = effects;
+        true
+    }
+
+    ghost foresees_elsewhere = { λ p m ts h. tt };
 
     fn observes(effect: &Effect<'_>) -> bool {
         gives_other(effect)

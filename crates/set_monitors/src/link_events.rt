@@ -1,6 +1,6 @@
 //! Link Events.
 
-use crate::foreseeing::keep_meets;
+use crate::foreseeing::{keep_meets, keep_named};
 use crate::link_turns::{follow, members};
 use crate::links::{Links, no_links};
 use event_monitors::{Counted, Gauge, alters_meet, moves_meet};
@@ -22,7 +22,8 @@ impl Gauge for Links {
     ghost use Rattle.khe_instance.specs.WellMade.{IsMonitor};
     ghost use Rattle.khe_instance.specs.declared.rules.Kind.TheVariants as kind;
     ghost use Rattle.event_monitors.specs.Shares.{KeepsMeet};
-    ghost use Rattle.set_monitors.specs.Foreseeing.{AreCutOrKeep};
+    ghost use Rattle.set_monitors.specs.ForeseenElsewhereLaws.{foreseen_elsewhere};
+    ghost use Rattle.set_monitors.specs.Foreseeing.{AreCutOrKeep, KeepsOrElsewhere};
     ghost use Rattle.set_monitors.specs.LinkCounts.{AreLinked};
     ghost use Rattle.set_monitors.specs.LinkElsewhereLaws.{group_elsewhere, group_unheard};
     ghost use Rattle.set_monitors.specs.LinkExactLaws.{linked_exact};
@@ -62,11 +63,17 @@ impl Gauge for Links {
         u64::from(self.apart)
     }
 
-    ghost Foresees = { AreCutOrKeep KeepsMeet };
+    ghost Foresees = { λ p m ts. AreCutOrKeep (KeepsOrElsewhere p m) ts };
 
-    fn foresees(effects: &Effects<'_>) -> bool {
+    fn foresees_always(effects: &Effects<'_>) -> bool {
         keep_meets(effects)
     }
+
+    fn foresees(inst: &Instance, monitor: Monitor, effects: &Effects<'_>) -> bool {
+        keep_named(inst, monitor, effects)
+    }
+
+    ghost foresees_elsewhere = { foreseen_elsewhere };
 
     fn observes(effect: &Effect<'_>) -> bool {
         alters_meet(effect)
